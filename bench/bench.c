@@ -1,0 +1,413 @@
+/* bench.c: two libraries with the calls of urpanella.h, A (urp_read, ..) and
+   B (plain_read, ..), on the same inputs in one run.
+     bench time REPETITIONS     medians: nanoseconds for each call, and A / B
+     bench names                the rows of the table, one to a line
+     bench calls A|B            each row's two calls once, for a counter of
+                                instructions: nothing else calls that library
+   Before anything is timed both must give the same answers and bytes. */
+#define _POSIX_C_SOURCE 199309L
+#include "urpanella.h"
+
+#include <stdio.h>
+#include <stdlib.h>
+#include <string.h>
+#include <time.h>
+
+typedef uint32_t read_call(const uint8_t *, size_t, uint8_t *, size_t,
+                           size_t *);
+typedef uint32_t write_call(const uint8_t *, size_t, uint8_t *, size_t,
+                            const uint8_t *, size_t, size_t *);
+typedef uint32_t edit_call(uint8_t *, size_t, const uint8_t *, size_t,
+                           uint32_t, const uint8_t *, size_t,
+                           uint8_t *, size_t, size_t *, size_t *);
+
+extern read_call plain_read;
+extern write_call plain_write;
+extern edit_call plain_edit;
+
+struct library {
+    read_call *read;
+    write_call *write;
+    edit_call *edit;
+};
+
+static const struct library library_a = { urp_read, urp_write, urp_edit };
+static const struct library library_b = { plain_read, plain_write, plain_edit };
+
+enum { MOST_REPETITIONS = 1001, SLICE_NS = 200000 };
+
+/* What a tag holds besides its first 34 bytes. */
+enum blocks { NONE, FEW, LONG, MANY };
+
+static const char *const block_names[] = { "none", "few", "long", "many" };
+
+static const struct row {
+    size_t tag_len;
+    enum blocks blocks;
+} rows[] = {
+    { 32, NONE }, { 112, FEW }, { 112, MANY }, { 256, FEW }, { 256, MANY },
+    { 2048, FEW }, { 2048, LONG }, { 2048, MANY }
+};
+
+enum { ROWS = sizeof rows / sizeof rows[0] };
+
+enum call { READ, WRITE, EDIT, CALLS };
+
+static const char *const call_names[CALLS] = { "read", "write", "edit" };
+
+struct sheet {
+    uint8_t bytes[URP_SHEET_MAX];
+    size_t len;
+};
+
+/* The inputs of one row. Calls take the two of each kind in turn, so that each
+   write and each edit changes the tag. */
+struct inputs {
+    size_t tag_len;
+    uint8_t locks[URP_LOCKS_MAX];
+    struct sheet sheets[2];
+    uint8_t tags[2][URP_TAG_MAX];
+    uint32_t number;
+    uint8_t values[2][URP_OLD_MAX];
+    size_t value_lens[2];
+};
+
+/* What the calls of a row work on and leave. */
+struct outputs {
+    uint8_t tag[URP_TAG_MAX];
+    uint8_t sheet[URP_SHEET_MAX];
+    uint8_t old[URP_OLD_MAX];
+    size_t len;
+    size_t pages;
+    uint32_t refusals;  /* all answers or'ed: 0 if none was a refusal */
+};
+
+static void stop(const char *message)
+{
+    fprintf(stderr, "bench: %s\n", message);
+    exit(1);
+}
+
+static void stop_at(const struct row *row, enum call call, const char *message)
+{
+    fprintf(stderr, "bench: %s, %lu bytes, blocks %s: %s\n", call_names[call],
+            (unsigned long)row->tag_len, block_names[row->blocks], message);
+    exit(1);
+}
+
+/* ---- inputs ---- */
+
+struct entry {
+    uint8_t number;
+    const uint8_t *bytes;
+    size_t len;
+};
+
+static void make_sheet(struct sheet *s, const struct entry *entries,
+                       size_t count)
+{
+    size_t place = 2 + 4 * count, i;
+
+    s->bytes[0] = (uint8_t)(count & 0xFF);
+    s->bytes[1] = (uint8_t)(count >> 8);
+    for (i = 0; i < count; i++) {
+        uint8_t *head = s->bytes + 2 + 4 * i;
+
+        head[0] = entries[i].number;
+        head[1] = (uint8_t)(place & 0xFF);
+        head[2] = (uint8_t)(place >> 8);
+        head[3] = (uint8_t)entries[i].len;
+        memcpy(s->bytes + place, entries[i].bytes, entries[i].len);
+        place += entries[i].len;
+    }
+    s->len = place;
+}
+
+/* A carried block of size bytes; IDs up to 100 have a checksum at byte 3. */
+static void make_block(uint8_t *block, size_t size, unsigned id)
+{
+    size_t i;
+    uint8_t x = 0;
+
+    for (i = 0; i < size; i++)
+        block[i] = (uint8_t)(7 * i + size);
+    block[0] = (uint8_t)size;
+    block[1] = (uint8_t)(id & 0xFF);
+    block[2] = (uint8_t)(id >> 8);
+    if (id > 100)
+        return;
+    block[3] = 0;
+    for (i = 0; i < size; i++)
+        x ^= block[i];
+    block[3] = x;
+}
+
+/* Adds carried blocks of size bytes while they fit into room. */
+static size_t add_blocks(struct entry *entries, size_t count, uint8_t *store,
+                         size_t size, unsigned id, size_t room)
+{
+    make_block(store, size, id);
+    for (; room >= size; room -= size) {
+        entries[count].number = URP_ELEMENT_CARRIED;
+        entries[count].bytes = store;
+        entries[count].len = size;
+        count++;
+    }
+    return count;
+}
+
+static size_t add(struct entry *entries, size_t count, uint8_t number,
+                  const void *bytes, size_t len)
+{
+    entries[count].number = number;
+    entries[count].bytes = (const uint8_t *)bytes;
+    entries[count].len = len;
+    return count + 1;
+}
+
+/* The sheet number 0 or 1 of a row: elements 1, 3, 4 and 5 in the first 34
+   bytes; for FEW also block 1 with 19, 22 and a sub qualifier, and one or three
+   blocks of 34 bytes; for LONG blocks of 251 bytes, for MANY of 3, as many as
+   fit. */
+static void make_row_sheet(const struct row *row, int which, struct inputs *in)
+{
+    static struct entry entries[1 + 7 + URP_TAG_MAX / 3];
+    static uint8_t store[URP_OLD_MAX];
+    size_t room = row->tag_len > 34 ? row->tag_len - 34 : 0, n = 0;
+
+    n = add(entries, n, 1, which == 0 ? "1000000056" : "2000000136", 10);
+    n = add(entries, n, 3, "DK-718500", 9);
+    n = add(entries, n, 4, "\001\000\001\000", 4);
+    n = add(entries, n, 5, row->blocks == FEW ? "\021" : "\020", 1);
+    if (row->blocks == FEW) {
+        n = add(entries, n, 19, "\001", 1);
+        n = add(entries, n, 22, "978-3-16-148", 12);
+        n = add_blocks(entries, n, store, 34, 2,
+                       row->tag_len > 112 ? 3 * 34 : 34);
+    }
+    if (row->blocks == LONG)
+        n = add_blocks(entries, n, store, 251, 3, room);
+    if (row->blocks == MANY)
+        n = add_blocks(entries, n, store, 3, 300, room);
+    make_sheet(&in->sheets[which], entries, n);
+}
+
+static void set_value(struct inputs *in, int which, const char *text)
+{
+    in->value_lens[which] = strlen(text);
+    memcpy(in->values[which], text, in->value_lens[which]);
+}
+
+/* Edits change the length of block 1 of a FEW tag and so move its other blocks;
+   of the others they change the first 34 bytes. */
+static void make_inputs(const struct row *row, const struct library *by,
+                        struct inputs *in)
+{
+    int which;
+    size_t pages;
+
+    memset(in, 0, sizeof *in);
+    in->tag_len = row->tag_len;
+    in->number = row->blocks == FEW ? 22 : 1;
+    set_value(in, 0, row->blocks == FEW ? "978-3-16" : "3000000099");
+    set_value(in, 1, row->blocks == FEW ? "978-3-16-148" : "1000000056");
+    for (which = 0; which < 2; which++) {
+        make_row_sheet(row, which, in);
+        if (by->write(in->sheets[which].bytes, in->sheets[which].len,
+                      in->tags[which], in->tag_len, in->locks,
+                      in->tag_len / URP_PAGE, &pages) != URP_DONE)
+            stop("a row's sheet is refused");
+    }
+}
+
+/* ---- calls ---- */
+
+static void begin(struct outputs *out, const struct inputs *in)
+{
+    memset(out, 0, sizeof *out);
+    memcpy(out->tag, in->tags[0], in->tag_len);
+}
+
+/* Makes a call `turns` times, the inputs in turn from the first on. */
+static void make_calls(const struct library *lib, enum call call,
+                       const struct inputs *in, struct outputs *out,
+                       size_t turns)
+{
+    size_t i, locks_len = in->tag_len / URP_PAGE;
+
+    for (i = 0; i < turns; i++) {
+        size_t k = i % 2;
+
+        if (call == READ)
+            out->refusals |= lib->read(in->tags[k], in->tag_len, out->sheet,
+                                       sizeof out->sheet, &out->len);
+        else if (call == WRITE)  /* the tag holds sheet 0: begin with 1 */
+            out->refusals |= lib->write(in->sheets[1 - k].bytes,
+                                        in->sheets[1 - k].len, out->tag,
+                                        in->tag_len, in->locks, locks_len,
+                                        &out->pages);
+        else
+            out->refusals |= lib->edit(out->tag, in->tag_len, in->locks,
+                                       locks_len, in->number, in->values[k],
+                                       in->value_lens[k], out->old,
+                                       sizeof out->old, &out->pages,
+                                       &out->len);
+    }
+}
+
+/* Both libraries must do the same, and change something where they should. */
+static void compare(const struct row *row, enum call call,
+                    const struct inputs *in)
+{
+    static struct outputs a, b;
+    size_t turns;
+
+    for (turns = 1; turns <= 2; turns++) {
+        begin(&a, in);
+        begin(&b, in);
+        make_calls(&library_a, call, in, &a, turns);
+        make_calls(&library_b, call, in, &b, turns);
+        if (a.refusals != 0 || b.refusals != 0)
+            stop_at(row, call, a.refusals ? "A refuses" : "B refuses");
+        if (memcmp(&a, &b, sizeof a) != 0)
+            stop_at(row, call, "A and B leave different bytes");
+        if (call != READ && a.pages == 0)
+            stop_at(row, call, "nothing changes");
+    }
+}
+
+/* ---- times ---- */
+
+static double now_ns(void)
+{
+    struct timespec t;
+
+    if (clock_gettime(CLOCK_MONOTONIC, &t) != 0)
+        stop("no clock");
+    return 1e9 * (double)t.tv_sec + (double)t.tv_nsec;
+}
+
+/* Nanoseconds for each of an even count of calls. */
+static double slice(const struct library *lib, enum call call,
+                    const struct inputs *in, struct outputs *out, size_t turns)
+{
+    double start = now_ns();
+
+    make_calls(lib, call, in, out, turns);
+    return (now_ns() - start) / (double)turns;
+}
+
+static int by_size(const void *x, const void *y)
+{
+    double a = *(const double *)x, b = *(const double *)y;
+
+    return (a > b) - (a < b);
+}
+
+static double median(double *times, size_t count)
+{
+    qsort(times, count, sizeof *times, by_size);
+    return times[count / 2];
+}
+
+/* Times one call of one row: A and B take turns, and so does who is first. The
+   ratio is the median of those of neighbouring slices, which other work on the
+   machine slows alike. */
+static void time_call(const struct row *row, enum call call,
+                      const struct inputs *in, size_t repetitions)
+{
+    static struct outputs out;
+    static double a[MOST_REPETITIONS], b[MOST_REPETITIONS];
+    static double ratio[MOST_REPETITIONS];
+    size_t turns = 2, i;
+
+    begin(&out, in);
+    while ((double)turns * slice(&library_b, call, in, &out, turns) < SLICE_NS)
+        turns *= 2;
+    for (i = 0; i < repetitions; i++) {
+        if (i % 2 == 0)
+            a[i] = slice(&library_a, call, in, &out, turns);
+        b[i] = slice(&library_b, call, in, &out, turns);
+        if (i % 2 != 0)
+            a[i] = slice(&library_a, call, in, &out, turns);
+        ratio[i] = a[i] / b[i];
+    }
+    if (out.refusals != 0)
+        stop_at(row, call, "a timed call is refused");
+    printf("%5lu  %-6s  %-5s  %9.0f  %9.0f  %6.2f\n",
+           (unsigned long)row->tag_len, block_names[row->blocks],
+           call_names[call], median(a, repetitions), median(b, repetitions),
+           median(ratio, repetitions));
+}
+
+/* ---- the three commands ---- */
+
+static void time_all(size_t repetitions)
+{
+    static struct inputs in;
+    size_t r;
+    int call;
+
+    printf("bytes  blocks  call        A ns       B ns     A/B\n");
+    for (r = 0; r < ROWS; r++) {
+        make_inputs(&rows[r], &library_b, &in);
+        for (call = READ; call < CALLS; call++) {
+            compare(&rows[r], (enum call)call, &in);
+            time_call(&rows[r], (enum call)call, &in, repetitions);
+        }
+    }
+}
+
+static void print_names(void)
+{
+    size_t r;
+    int call;
+
+    for (r = 0; r < ROWS; r++)
+        for (call = READ; call < CALLS; call++)
+            printf("%5lu  %-6s  %-5s\n", (unsigned long)rows[r].tag_len,
+                   block_names[rows[r].blocks], call_names[call]);
+}
+
+static void call_all(const struct library *lib, const struct library *other)
+{
+    static struct inputs in;
+    static struct outputs out;
+    size_t r;
+    int call;
+
+    for (r = 0; r < ROWS; r++) {
+        make_inputs(&rows[r], other, &in);
+        for (call = READ; call < CALLS; call++) {
+            begin(&out, &in);
+            make_calls(lib, (enum call)call, &in, &out, 2);
+            if (out.refusals != 0)
+                stop_at(&rows[r], (enum call)call, "a counted call is refused");
+        }
+    }
+}
+
+static int is_command(int argc, char **argv, int words, const char *name)
+{
+    return argc == words && strcmp(argv[1], name) == 0;
+}
+
+int main(int argc, char **argv)
+{
+    if (is_command(argc, argv, 2, "names")) {
+        print_names();
+    } else if (is_command(argc, argv, 3, "calls") && argv[2][0] == 'A') {
+        call_all(&library_a, &library_b);
+    } else if (is_command(argc, argv, 3, "calls") && argv[2][0] == 'B') {
+        call_all(&library_b, &library_a);
+    } else if (is_command(argc, argv, 3, "time")) {
+        unsigned long repetitions = strtoul(argv[2], NULL, 10);
+
+        if (repetitions < 1 || repetitions > MOST_REPETITIONS)
+            stop("1 to 1001 repetitions");
+        time_all((size_t)repetitions);
+    } else {
+        stop("usage: bench time REPETITIONS | names | calls A|B");
+    }
+    return 0;
+}

@@ -1,0 +1,866 @@
+/* plain.c: the three calls of urpanella.h in plain C, written from document 01.
+   The benchmark holds the proved library against it. */
+#include "urpanella.h"
+
+#include <string.h>
+
+enum {
+    BASIC = 34,      /* where the chain of blocks starts */
+    SHORT_TAG = 32,  /* a tag with no chain and a shorter owner field */
+    ITEM_AT = 3,
+    ITEM_WIDTH = 16,
+    CRC_AT = 19,
+    OWNER_AT = 21,
+    OWNER_WIDTH = 13,
+    LEAD = 4,        /* length, ID and checksum of a structured block */
+    BLOCK_MAX = 255,
+    UNIT_MAX = 11,
+    ELSEWHERE = 1,   /* marker: the field stands in block 1 */
+    CARRIED = 255    /* element number of a carried block */
+};
+
+/* The elements that a sheet has at most once, in the order of their numbers. */
+enum { ITEM, ISIL, SET, USAGE, MEDIA, ITEM2, OWNER2, SLOTS };
+
+static const uint8_t slot_numbers[SLOTS] = { 1, 3, 4, 5, 19, 22, 23 };
+
+struct span {
+    const uint8_t *at;
+    size_t len;
+};
+
+/* What a tag or a sheet says: the elements in sheet form, empty where there is
+   none, and the carried blocks. */
+struct content {
+    struct span slot[SLOTS];
+    struct span carried;             /* all carried blocks in a row */
+    uint8_t isil[2 + 1 + UNIT_MAX];  /* bytes of those elements that no part */
+    uint8_t set[4];                  /* of the tag holds in sheet form */
+    uint8_t usage;
+};
+
+/* What a walk over the chain finds. */
+struct chain {
+    const uint8_t *block1;  /* null where there is none */
+    const uint8_t *first;   /* first and last carried block */
+    const uint8_t *last;
+    size_t blocks;          /* count and bytes of the carried blocks */
+    size_t bytes;
+};
+
+/* The fields of block 1, or of the basic block, before they are elements. */
+struct fields {
+    struct span item;
+    struct span owner;
+    struct span media;
+    uint8_t usage;
+    int item_marked;
+    int owner_marked;
+};
+
+/* The remainders of 00 to FF, each followed by 16 zero bits, by 1021 hex. */
+static const uint16_t remainders[256] = {
+    0x0000, 0x1021, 0x2042, 0x3063, 0x4084, 0x50A5, 0x60C6, 0x70E7,
+    0x8108, 0x9129, 0xA14A, 0xB16B, 0xC18C, 0xD1AD, 0xE1CE, 0xF1EF,
+    0x1231, 0x0210, 0x3273, 0x2252, 0x52B5, 0x4294, 0x72F7, 0x62D6,
+    0x9339, 0x8318, 0xB37B, 0xA35A, 0xD3BD, 0xC39C, 0xF3FF, 0xE3DE,
+    0x2462, 0x3443, 0x0420, 0x1401, 0x64E6, 0x74C7, 0x44A4, 0x5485,
+    0xA56A, 0xB54B, 0x8528, 0x9509, 0xE5EE, 0xF5CF, 0xC5AC, 0xD58D,
+    0x3653, 0x2672, 0x1611, 0x0630, 0x76D7, 0x66F6, 0x5695, 0x46B4,
+    0xB75B, 0xA77A, 0x9719, 0x8738, 0xF7DF, 0xE7FE, 0xD79D, 0xC7BC,
+    0x48C4, 0x58E5, 0x6886, 0x78A7, 0x0840, 0x1861, 0x2802, 0x3823,
+    0xC9CC, 0xD9ED, 0xE98E, 0xF9AF, 0x8948, 0x9969, 0xA90A, 0xB92B,
+    0x5AF5, 0x4AD4, 0x7AB7, 0x6A96, 0x1A71, 0x0A50, 0x3A33, 0x2A12,
+    0xDBFD, 0xCBDC, 0xFBBF, 0xEB9E, 0x9B79, 0x8B58, 0xBB3B, 0xAB1A,
+    0x6CA6, 0x7C87, 0x4CE4, 0x5CC5, 0x2C22, 0x3C03, 0x0C60, 0x1C41,
+    0xEDAE, 0xFD8F, 0xCDEC, 0xDDCD, 0xAD2A, 0xBD0B, 0x8D68, 0x9D49,
+    0x7E97, 0x6EB6, 0x5ED5, 0x4EF4, 0x3E13, 0x2E32, 0x1E51, 0x0E70,
+    0xFF9F, 0xEFBE, 0xDFDD, 0xCFFC, 0xBF1B, 0xAF3A, 0x9F59, 0x8F78,
+    0x9188, 0x81A9, 0xB1CA, 0xA1EB, 0xD10C, 0xC12D, 0xF14E, 0xE16F,
+    0x1080, 0x00A1, 0x30C2, 0x20E3, 0x5004, 0x4025, 0x7046, 0x6067,
+    0x83B9, 0x9398, 0xA3FB, 0xB3DA, 0xC33D, 0xD31C, 0xE37F, 0xF35E,
+    0x02B1, 0x1290, 0x22F3, 0x32D2, 0x4235, 0x5214, 0x6277, 0x7256,
+    0xB5EA, 0xA5CB, 0x95A8, 0x8589, 0xF56E, 0xE54F, 0xD52C, 0xC50D,
+    0x34E2, 0x24C3, 0x14A0, 0x0481, 0x7466, 0x6447, 0x5424, 0x4405,
+    0xA7DB, 0xB7FA, 0x8799, 0x97B8, 0xE75F, 0xF77E, 0xC71D, 0xD73C,
+    0x26D3, 0x36F2, 0x0691, 0x16B0, 0x6657, 0x7676, 0x4615, 0x5634,
+    0xD94C, 0xC96D, 0xF90E, 0xE92F, 0x99C8, 0x89E9, 0xB98A, 0xA9AB,
+    0x5844, 0x4865, 0x7806, 0x6827, 0x18C0, 0x08E1, 0x3882, 0x28A3,
+    0xCB7D, 0xDB5C, 0xEB3F, 0xFB1E, 0x8BF9, 0x9BD8, 0xABBB, 0xBB9A,
+    0x4A75, 0x5A54, 0x6A37, 0x7A16, 0x0AF1, 0x1AD0, 0x2AB3, 0x3A92,
+    0xFD2E, 0xED0F, 0xDD6C, 0xCD4D, 0xBDAA, 0xAD8B, 0x9DE8, 0x8DC9,
+    0x7C26, 0x6C07, 0x5C64, 0x4C45, 0x3CA2, 0x2C83, 0x1CE0, 0x0CC1,
+    0xEF1F, 0xFF3E, 0xCF5D, 0xDF7C, 0xAF9B, 0xBFBA, 0x8FD9, 0x9FF8,
+    0x6E17, 0x7E36, 0x4E55, 0x5E74, 0x2E93, 0x3EB2, 0x0ED1, 0x1EF0
+};
+
+static uint16_t crc_over(uint16_t crc, const uint8_t *bytes, size_t len)
+{
+    size_t i;
+
+    for (i = 0; i < len; i++)
+        crc = (uint16_t)((crc << 8) ^ remainders[(crc >> 8) ^ bytes[i]]);
+    return crc;
+}
+
+static size_t owner_width(size_t tag_len)
+{
+    return tag_len == SHORT_TAG ? SHORT_TAG - OWNER_AT : OWNER_WIDTH;
+}
+
+/* The CRC that belongs on a tag; what a short tag lacks counts as 00. */
+static uint16_t basic_crc(const uint8_t *tag, size_t tag_len)
+{
+    static const uint8_t zeros[BASIC - SHORT_TAG] = { 0, 0 };
+    size_t width = owner_width(tag_len);
+    uint16_t crc = crc_over(0xFFFF, tag, CRC_AT);
+
+    crc = crc_over(crc, tag + OWNER_AT, width);
+    return crc_over(crc, zeros, OWNER_WIDTH - width);
+}
+
+static size_t low_first(const uint8_t *two)
+{
+    return two[0] | (size_t)two[1] << 8;
+}
+
+static void put_low_first(uint8_t *two, size_t number)
+{
+    two[0] = (uint8_t)(number & 0xFF);
+    two[1] = (uint8_t)(number >> 8);
+}
+
+static struct span span_of(const uint8_t *at, size_t len)
+{
+    struct span s;
+
+    s.at = at;
+    s.len = len;
+    return s;
+}
+
+/* The length without the 00 bytes at the end. */
+static size_t stripped(const uint8_t *bytes, size_t len)
+{
+    while (len > 0 && bytes[len - 1] == 0)
+        len--;
+    return len;
+}
+
+static int is_capital(uint8_t b)
+{
+    return b >= 'A' && b <= 'Z';
+}
+
+static int is_text(const uint8_t *bytes, size_t len)
+{
+    size_t i;
+
+    for (i = 0; i < len; i++)
+        if (bytes[i] < 0x20 || bytes[i] > 0x7E)
+            return 0;
+    return 1;
+}
+
+static int is_unit(const uint8_t *bytes, size_t len)
+{
+    size_t i;
+
+    if (len < 1 || len > UNIT_MAX)
+        return 0;
+    for (i = 0; i < len; i++) {
+        uint8_t b = bytes[i];
+
+        /* '-', '/', the digits and ':' stand in a row, with '.' among them */
+        if (!(b >= '-' && b <= ':' && b != '.') && !is_capital(b)
+            && !(b >= 'a' && b <= 'z'))
+            return 0;
+    }
+    return 1;
+}
+
+/* The count of capitals at the start of an ISIL. */
+static size_t prefix_len(const uint8_t *bytes, size_t len)
+{
+    size_t n = 0;
+
+    while (n < len && is_capital(bytes[n]))
+        n++;
+    return n;
+}
+
+static int is_isil(const uint8_t *bytes, size_t len)
+{
+    size_t n = prefix_len(bytes, len);
+
+    return n >= 1 && n <= 4 && n < len && bytes[n] == '-'
+        && is_unit(bytes + n + 1, len - n - 1);
+}
+
+static int begins_other_owner(const uint8_t *bytes)
+{
+    return bytes[0] == 2 || bytes[0] == 3;
+}
+
+static int is_other_owner(const uint8_t *bytes, size_t len)
+{
+    return len >= 2 && begins_other_owner(bytes) && is_text(bytes + 1, len - 1);
+}
+
+static int is_set(const uint8_t *bytes, size_t len)
+{
+    return len == 4 && bytes[1] == 0 && bytes[3] == 0 && bytes[2] <= bytes[0];
+}
+
+static uint8_t xor_over(const uint8_t *bytes, size_t len)
+{
+    uint8_t x = 0;
+    size_t i;
+
+    for (i = 0; i < len; i++)
+        x ^= bytes[i];
+    return x;
+}
+
+/* Whether a block that is no filler begins here and ends within left bytes,
+   left being at least 1. */
+static int is_block(const uint8_t *block, size_t left)
+{
+    size_t len = block[0], id;
+
+    if (len < 3 || len > left)
+        return 0;
+    id = low_first(block + 1);
+    if (id == 0)
+        return 0;
+    return id > 100 || (len >= LEAD && xor_over(block, len) == 0);
+}
+
+static int is_carried(const uint8_t *bytes, size_t len)
+{
+    return len >= 1 && bytes[0] == len && is_block(bytes, len)
+        && low_first(bytes + 1) != 1;
+}
+
+/* The place of an element among the slots, SLOTS if it has none. */
+static int slot_of(uint32_t number)
+{
+    switch (number) {
+    case 1: return ITEM;
+    case 3: return ISIL;
+    case 4: return SET;
+    case 5: return USAGE;
+    case 19: return MEDIA;
+    case 22: return ITEM2;
+    case 23: return OWNER2;
+    default: return SLOTS;
+    }
+}
+
+static int is_value(int slot, const uint8_t *bytes, size_t len)
+{
+    switch (slot) {
+    case ITEM:
+    case ITEM2: return len >= 1 && is_text(bytes, len);
+    case ISIL: return is_isil(bytes, len);
+    case SET: return is_set(bytes, len);
+    case USAGE: return len == 1;
+    case MEDIA: return len == 1 && bytes[0] != 0;
+    case OWNER2: return is_other_owner(bytes, len);
+    default: return 0;
+    }
+}
+
+static int clashes(const struct content *c)
+{
+    return (c->slot[ISIL].len > 0 && c->slot[OWNER2].len > 0)
+        || (c->slot[ITEM2].len > 0 && c->slot[ITEM].len > ITEM_WIDTH);
+}
+
+static int is_tag_size(size_t len)
+{
+    return len == SHORT_TAG
+        || (len >= 36 && len <= URP_TAG_MAX && len % URP_PAGE == 0);
+}
+
+static int is_lock_map(const uint8_t *locks, size_t locks_len, size_t tag_len)
+{
+    size_t i;
+
+    if (locks_len != tag_len / URP_PAGE)
+        return 0;
+    for (i = 0; i < locks_len; i++)
+        if (locks[i] > 1)
+            return 0;
+    return 1;
+}
+
+/* ---- from a tag to its content ---- */
+
+static void add_carried(struct chain *chain, const uint8_t *block)
+{
+    if (chain->blocks == 0)
+        chain->first = block;
+    chain->last = block;
+    chain->blocks++;
+    chain->bytes += block[0];
+}
+
+/* Walks the chain; 0 at the first damage. */
+static int walk(const uint8_t *tag, size_t tag_len, struct chain *chain)
+{
+    size_t at;
+
+    memset(chain, 0, sizeof *chain);
+    for (at = BASIC; at < tag_len && tag[at] != 0; at += tag[at]) {
+        const uint8_t *block = tag + at;
+
+        if (block[0] == 1)
+            continue;
+        if (!is_block(block, tag_len - at))
+            return 0;
+        if (low_first(block + 1) != 1) {
+            add_carried(chain, block);
+            continue;
+        }
+        if (chain->block1 != NULL)
+            return 0;
+        chain->block1 = block;
+    }
+    return 1;
+}
+
+static int take_item(const uint8_t *tag, struct fields *basic)
+{
+    const uint8_t *field = tag + ITEM_AT;
+    size_t len = stripped(field, ITEM_WIDTH);
+
+    basic->item_marked = len == 1 && field[0] == ELSEWHERE;
+    if (!basic->item_marked)
+        basic->item = span_of(field, len);
+    return basic->item_marked || is_text(field, len);
+}
+
+/* Takes the owner field as it stands: an ISIL is put into sheet form later. */
+static int take_owner(const uint8_t *tag, size_t tag_len, struct fields *basic)
+{
+    const uint8_t *field = tag + OWNER_AT;
+    size_t len = stripped(field, owner_width(tag_len));
+
+    if (len == 0)
+        return 1;
+    if (field[2] == ELSEWHERE) {
+        basic->owner_marked = 1;
+        return len == 3;
+    }
+    if (begins_other_owner(field + 2)) {
+        basic->owner = span_of(field + 2, len - 2);
+        return is_other_owner(field + 2, len - 2);
+    }
+    basic->owner = span_of(field, len);
+    return is_capital(field[0]) && (is_capital(field[1]) || field[1] == ' ')
+        && len > 2 && is_unit(field + 2, len - 2);
+}
+
+/* Takes the bytes up to a 00 or the end, and goes past that 00. */
+static struct span next_field(struct span *rest)
+{
+    struct span field = *rest;
+    const uint8_t *zero = NULL;
+
+    if (rest->len > 0)
+        zero = (const uint8_t *)memchr(rest->at, 0, rest->len);
+    if (zero == NULL) {
+        rest->len = 0;
+        return field;
+    }
+    field.len = (size_t)(zero - field.at);
+    rest->at = zero + 1;
+    rest->len -= field.len + 1;
+    return field;
+}
+
+static int take_block1(const uint8_t *block, struct fields *more)
+{
+    struct span rest = span_of(block + LEAD, 0);
+
+    rest.len = stripped(rest.at, block[0] - (size_t)LEAD);
+    if (rest.len == 0)
+        return 1;
+    if (rest.at[0] != 0)
+        more->media = span_of(rest.at, 1);
+    rest.at++;
+    rest.len--;
+    more->item = next_field(&rest);
+    more->owner = next_field(&rest);
+    if (rest.len > 1)
+        return 0;
+    if (rest.len == 1)
+        more->usage = rest.at[0];
+    if (!is_text(more->item.at, more->item.len))
+        return 0;
+    return more->owner.len == 0 || is_isil(more->owner.at, more->owner.len)
+        || is_other_owner(more->owner.at, more->owner.len);
+}
+
+static int agree(const uint8_t *tag, const struct fields *basic,
+                 const struct fields *more)
+{
+    if (more->usage != 0 && more->usage >> 4 != tag[0] >> 4)
+        return 0;
+    if (basic->item_marked && more->item.len == 0)
+        return 0;
+    return basic->owner_marked == (more->owner.len > 0);
+}
+
+/* Gives the ISIL of an owner field its hyphen, in place of a blank if it has
+   one. */
+static struct span with_hyphen(struct span field, uint8_t *room)
+{
+    size_t prefix = field.at[1] == ' ' ? 1 : 2;
+
+    memcpy(room, field.at, prefix);
+    room[prefix] = '-';
+    memcpy(room + prefix + 1, field.at + 2, field.len - 2);
+    return span_of(room, prefix + 1 + field.len - 2);
+}
+
+static void settle_owner(struct content *c, const struct fields *basic,
+                         const struct fields *more)
+{
+    struct span owner = basic->owner_marked ? more->owner : basic->owner;
+
+    if (owner.len == 0)
+        return;
+    if (begins_other_owner(owner.at))
+        c->slot[OWNER2] = owner;
+    else if (basic->owner_marked)
+        c->slot[ISIL] = owner;
+    else
+        c->slot[ISIL] = with_hyphen(owner, c->isil);
+}
+
+static void settle(struct content *c, const uint8_t *tag,
+                   const struct fields *basic, const struct fields *more)
+{
+    c->slot[basic->item_marked ? ITEM : ITEM2] = more->item;
+    if (!basic->item_marked)
+        c->slot[ITEM] = basic->item;
+    settle_owner(c, basic, more);
+    c->slot[MEDIA] = more->media;
+
+    c->set[0] = tag[1];
+    c->set[2] = tag[2];
+    c->slot[SET] = span_of(c->set, 4);
+    c->usage = more->usage != 0 ? more->usage : (uint8_t)(tag[0] & 0xF0);
+    c->slot[USAGE] = span_of(&c->usage, 1);
+}
+
+/* Takes a tag of good size apart: 3 to 7. The carried blocks count as one part
+   of the tag only if chain says that they follow each other. */
+static uint32_t take_apart(const uint8_t *tag, size_t tag_len,
+                           struct content *c, struct chain *chain)
+{
+    struct fields basic, more;
+    int good;
+
+    if ((tag[0] & 0x0F) != 1)
+        return URP_CONTENT;
+    if (low_first(tag + CRC_AT) != basic_crc(tag, tag_len))
+        return URP_CHECK;
+    if (!walk(tag, tag_len, chain))
+        return URP_BLOCK;
+
+    memset(&basic, 0, sizeof basic);
+    memset(&more, 0, sizeof more);
+    good = tag[2] <= tag[1] && take_item(tag, &basic)
+        && take_owner(tag, tag_len, &basic)
+        && (chain->block1 == NULL || take_block1(chain->block1, &more));
+    if (!good)
+        return URP_FIELD;
+    if (!agree(tag, &basic, &more))
+        return URP_MISMATCH;
+
+    memset(c, 0, sizeof *c);
+    settle(c, tag, &basic, &more);
+    c->carried = span_of(chain->first, chain->bytes);
+    return URP_DONE;
+}
+
+/* ---- from a content to a sheet ---- */
+
+/* Where the next entry and its bytes go. */
+struct pen {
+    uint8_t *sheet;
+    size_t entry;
+    size_t place;
+};
+
+struct extent {
+    size_t entries;
+    size_t len;
+    size_t last_offset;
+};
+
+static void put_entry(struct pen *pen, uint8_t number, struct span bytes)
+{
+    uint8_t *entry = pen->sheet + pen->entry;
+
+    entry[0] = number;
+    put_low_first(entry + 1, pen->place);
+    entry[3] = (uint8_t)bytes.len;
+    memcpy(pen->sheet + pen->place, bytes.at, bytes.len);
+    pen->entry += 4;
+    pen->place += bytes.len;
+}
+
+/* Puts the carried blocks, past fillers and block 1. */
+static void put_carried(struct pen *pen, const struct chain *chain)
+{
+    const uint8_t *block = chain->first;
+    size_t left = chain->blocks;
+
+    for (; left > 0; block += block[0]) {
+        if (block[0] == 1 || block == chain->block1)
+            continue;
+        put_entry(pen, CARRIED, span_of(block, block[0]));
+        left--;
+    }
+}
+
+/* Measures the sheet of a tag's content. */
+static void measure(const struct content *c, const struct chain *chain,
+                    struct extent *e)
+{
+    size_t bytes = 0, last = 0;
+    int slot;
+
+    e->entries = chain->blocks;
+    for (slot = 0; slot < SLOTS; slot++) {
+        if (c->slot[slot].len == 0)
+            continue;
+        e->entries++;
+        last = c->slot[slot].len;
+        bytes += last;
+    }
+    if (chain->blocks > 0)
+        last = chain->last[0];
+    e->len = 2 + 4 * e->entries + bytes + chain->bytes;
+    e->last_offset = e->len - last;
+}
+
+static void put_sheet(uint8_t *sheet, size_t entries, const struct content *c,
+                      const struct chain *chain)
+{
+    struct pen pen;
+    int slot;
+
+    pen.sheet = sheet;
+    pen.entry = 2;
+    pen.place = 2 + 4 * entries;
+    put_low_first(sheet, entries);
+    for (slot = 0; slot < SLOTS; slot++)
+        if (c->slot[slot].len > 0)
+            put_entry(&pen, slot_numbers[slot], c->slot[slot]);
+    put_carried(&pen, chain);
+}
+
+uint32_t urp_read(const uint8_t *tag, size_t tag_len,
+                  uint8_t *sheet, size_t sheet_len,
+                  size_t *used)
+{
+    struct content c;
+    struct chain chain;
+    struct extent e;
+    uint32_t refusal;
+
+    if (!is_tag_size(tag_len))
+        return URP_SIZE;
+    refusal = take_apart(tag, tag_len, &c, &chain);
+    if (refusal != URP_DONE)
+        return refusal;
+    measure(&c, &chain, &e);
+    if (e.last_offset > 0xFFFF)
+        return URP_OFFSET;
+    if (sheet_len < e.len)
+        return URP_ROOM;
+
+    put_sheet(sheet, e.entries, &c, &chain);
+    *used = e.len;
+    return URP_DONE;
+}
+
+/* ---- from a sheet to its content ---- */
+
+/* Whether header, order, offsets and end are right: 8. */
+static int is_sheet(const uint8_t *sheet, size_t len)
+{
+    size_t entries, place, i;
+    int before = -1;
+
+    if (len < 2)
+        return 0;
+    entries = low_first(sheet);
+    if ((len - 2) / 4 < entries)
+        return 0;
+    place = 2 + 4 * entries;
+    for (i = 0; i < entries; i++) {
+        const uint8_t *entry = sheet + 2 + 4 * i;
+        int number = entry[0];
+
+        if (number < before || (number == before && number != CARRIED))
+            return 0;
+        if (low_first(entry + 1) != place)
+            return 0;
+        before = number;
+        place += entry[3];
+    }
+    return place == len;
+}
+
+/* Takes a right sheet's entries: 9. */
+static int take_entries(const uint8_t *sheet, size_t len, struct content *c)
+{
+    size_t entries = low_first(sheet), i;
+    const uint8_t *bytes = sheet + 2 + 4 * entries;
+
+    memset(c, 0, sizeof *c);
+    for (i = 0; i < entries; i++) {
+        const uint8_t *entry = sheet + 2 + 4 * i;
+        size_t size = entry[3];
+        int slot = slot_of(entry[0]);
+
+        if (entry[0] == CARRIED) {
+            if (!is_carried(bytes, size))
+                return 0;
+            if (c->carried.len == 0)
+                c->carried = span_of(bytes, len - (size_t)(bytes - sheet));
+        } else {
+            if (!is_value(slot, bytes, size))
+                return 0;
+            c->slot[slot] = span_of(bytes, size);
+        }
+        bytes += size;
+    }
+    return c->slot[SET].len > 0 && c->slot[USAGE].len > 0;
+}
+
+/* ---- the writer's own layout ---- */
+
+/* Puts the owner into the owner field if one of its forms holds it. */
+static int put_owner(const struct content *c, uint8_t *field, size_t width)
+{
+    struct span isil = c->slot[ISIL], other = c->slot[OWNER2];
+    size_t prefix, unit;
+
+    if (other.len > 0) {
+        if (other.len > width - 2)
+            return 0;
+        memcpy(field + 2, other.at, other.len);
+        return 1;
+    }
+    if (isil.len == 0)
+        return 1;
+    prefix = prefix_len(isil.at, isil.len);
+    unit = isil.len - prefix - 1;
+    if (prefix > 2 || unit > width - 2)
+        return 0;
+    field[1] = ' ';
+    memcpy(field, isil.at, prefix);
+    memcpy(field + 2, isil.at + prefix + 1, unit);
+    return 1;
+}
+
+/* The length of block 1, 0 where it has nothing to hold. */
+static size_t block1_size(const struct fields *f)
+{
+    if (f->usage != 0)
+        return LEAD + 1 + f->item.len + 1 + f->owner.len + 1 + 1;
+    if (f->owner.len > 0)
+        return LEAD + 1 + f->item.len + 1 + f->owner.len;
+    if (f->item.len > 0)
+        return LEAD + 1 + f->item.len;
+    return f->media.len > 0 ? LEAD + 1 : 0;
+}
+
+/* Puts block 1 over size bytes of 00. */
+static void put_block1(uint8_t *block, size_t size, const struct fields *f)
+{
+    uint8_t *field = block + LEAD + 1;
+
+    block[0] = (uint8_t)size;
+    block[1] = 1;
+    if (f->media.len > 0)
+        block[LEAD] = f->media.at[0];
+    if (f->item.len > 0)
+        memcpy(field, f->item.at, f->item.len);
+    field += f->item.len + 1;
+    if (f->owner.len > 0)
+        memcpy(field, f->owner.at, f->owner.len);
+    if (f->usage != 0)
+        block[size - 1] = f->usage;
+    block[3] = xor_over(block, size);
+}
+
+/* Puts the basic block without its CRC over bytes of 00, and gives what goes to
+   block 1. */
+static void put_basic(const struct content *c, uint8_t *image, size_t tag_len,
+                      struct fields *more)
+{
+    uint8_t usage = c->slot[USAGE].at[0];
+
+    memset(more, 0, sizeof *more);
+    image[0] = (uint8_t)((usage & 0xF0) | 1);
+    image[1] = c->slot[SET].at[0];
+    image[2] = c->slot[SET].at[2];
+    if ((usage & 0x0F) != 0)
+        more->usage = usage;
+    more->media = c->slot[MEDIA];
+    more->item = c->slot[ITEM2];
+    if (c->slot[ITEM].len > ITEM_WIDTH) {
+        image[ITEM_AT] = ELSEWHERE;
+        more->item = c->slot[ITEM];
+    } else if (c->slot[ITEM].len > 0) {
+        memcpy(image + ITEM_AT, c->slot[ITEM].at, c->slot[ITEM].len);
+    }
+    if (!put_owner(c, image + OWNER_AT, owner_width(tag_len))) {
+        image[OWNER_AT + 2] = ELSEWHERE;
+        more->owner = c->slot[c->slot[ISIL].len > 0 ? ISIL : OWNER2];
+    }
+}
+
+/* Lays a content that does not clash out as a tag of tag_len bytes: 11. */
+static uint32_t lay_out(const struct content *c, uint8_t *image, size_t tag_len)
+{
+    size_t room = tag_len == SHORT_TAG ? 0 : tag_len - BASIC;
+    size_t size;
+    struct fields more;
+
+    memset(image, 0, tag_len);
+    put_basic(c, image, tag_len, &more);
+    size = block1_size(&more);
+    if (size > BLOCK_MAX || size + c->carried.len > room)
+        return URP_LARGE;
+
+    if (size > 0)
+        put_block1(image + BASIC, size, &more);
+    if (c->carried.len > 0)
+        memcpy(image + BASIC + size, c->carried.at, c->carried.len);
+    put_low_first(image + CRC_AT, basic_crc(image, tag_len));
+    return URP_DONE;
+}
+
+/* ---- storing ---- */
+
+/* Counts the pages that differ; refuses where one of them is locked: 12. */
+static uint32_t count_pages(const uint8_t *tag, const uint8_t *image,
+                            size_t tag_len, const uint8_t *locks, size_t *count)
+{
+    size_t page, n = 0;
+
+    for (page = 0; page < tag_len / URP_PAGE; page++) {
+        size_t at = page * URP_PAGE;
+
+        if (memcmp(tag + at, image + at, URP_PAGE) == 0)
+            continue;
+        if (locks[page])
+            return URP_LOCKED;
+        n++;
+    }
+    *count = n;
+    return URP_DONE;
+}
+
+uint32_t urp_write(const uint8_t *sheet, size_t sheet_len,
+                   uint8_t *tag, size_t tag_len,
+                   const uint8_t *locks, size_t locks_len,
+                   size_t *pages)
+{
+    struct content c;
+    uint8_t image[URP_TAG_MAX];
+    size_t count;
+
+    if (!is_tag_size(tag_len) || !is_lock_map(locks, locks_len, tag_len))
+        return URP_SIZE;
+    if (!is_sheet(sheet, sheet_len))
+        return URP_SHEET;
+    if (!take_entries(sheet, sheet_len, &c))
+        return URP_VALUE;
+    if (clashes(&c))
+        return URP_CLASH;
+    if (lay_out(&c, image, tag_len) != URP_DONE)
+        return URP_LARGE;
+    if (count_pages(tag, image, tag_len, locks, &count) != URP_DONE)
+        return URP_LOCKED;
+
+    memcpy(tag, image, tag_len);
+    *pages = count;
+    return URP_DONE;
+}
+
+/* Whether the tag is byte for byte what the writer lays down for its content.
+   A filler or block 1 between carried blocks is nothing that it lays down. */
+static int is_own_layout(const uint8_t *tag, size_t tag_len,
+                         const struct content *c, const struct chain *chain,
+                         uint8_t *image)
+{
+    if (chain->blocks > 0
+        && chain->last + chain->last[0] != chain->first + chain->bytes)
+        return 0;
+    return lay_out(c, image, tag_len) == URP_DONE
+        && memcmp(tag, image, tag_len) == 0;
+}
+
+/* Whether these bytes may be set, or the element be removed: 9. */
+static int is_edit(int slot, const uint8_t *value, size_t value_len)
+{
+    if (slot == SLOTS || value_len > URP_OLD_MAX)
+        return 0;
+    if (value_len == 0)
+        return slot != SET && slot != USAGE;
+    return is_value(slot, value, value_len);
+}
+
+uint32_t urp_edit(uint8_t *tag, size_t tag_len,
+                  const uint8_t *locks, size_t locks_len,
+                  uint32_t number,
+                  const uint8_t *value, size_t value_len,
+                  uint8_t *old, size_t old_len,
+                  size_t *pages, size_t *old_used)
+{
+    struct content c;
+    struct chain chain;
+    struct span before;
+    uint8_t image[URP_TAG_MAX];
+    size_t count;
+    int slot = slot_of(number);
+    uint32_t refusal;
+
+    if (!is_tag_size(tag_len) || !is_lock_map(locks, locks_len, tag_len))
+        return URP_SIZE;
+    refusal = take_apart(tag, tag_len, &c, &chain);
+    if (refusal != URP_DONE)
+        return refusal;
+    if (!is_own_layout(tag, tag_len, &c, &chain, image))
+        return URP_LOOSE;
+    if (old_len < URP_OLD_MAX)
+        return URP_ROOM;
+    if (!is_edit(slot, value, value_len))
+        return URP_VALUE;
+    before = c.slot[slot];
+    c.slot[slot] = span_of(value, value_len);
+    if (clashes(&c))
+        return URP_CLASH;
+    if (lay_out(&c, image, tag_len) != URP_DONE)
+        return URP_LARGE;
+    if (count_pages(tag, image, tag_len, locks, &count) != URP_DONE)
+        return URP_LOCKED;
+
+    /* before is a part of the tag: hand it out first */
+    if (before.len > 0)
+        memcpy(old, before.at, before.len);
+    memcpy(tag, image, tag_len);
+    *old_used = before.len;
+    *pages = count;
+    return URP_DONE;
+}

@@ -1,0 +1,190 @@
+-- A chain of well-formed blocks is walked as it was laid, and block 1's fields come back.
+use mathlib.Core.Path.{_≡_, refl, sym, ap, ap₂, _∙_}
+use Prim.Native.Nat.{ℕ, zero, suc, _+_, _-_, _*_, _/_, _%_, _≤_, _<_}
+use native.Mathlib.Nat.{le-refl}
+use native.Mathlib.Omega.{arith}
+use mathlib.Core.Bool.{Bool, true, false, not, _&&_, _||_}
+use mathlib.Core.List.{List, [], _∷_, _++_, append-assoc, append-nil}
+use lib.Dec.{eqb, leb}
+use lib.ListN.{length, take, drop, getD, replicate, length-append, length-drop, List·getD-append}
+use lib.Seq.{take-at, drop-at}
+use borrow.Author.Tests.{eqb-true, eq-eqb, ne-eqb, leb-true, le-leb}
+use Rattle.format.specs.Answers.{Answer, got, refused, need, andThen}
+use Rattle.format.specs.Bytes.{if_then_else_, isEmpty, all, le16, word, xorAll, strip, upTo, past, joined, trim}
+use Rattle.format.specs.Fields.{text, isOwner}
+use Rattle.format.specs.Chain.{idOf, wellFormed, isLibrary, carriable, walk, chain, libraryBlock, otherBlocks, Library, payload, lastField, libraryIn, goodLibrary, libraryBytes, sealed, blockOne}
+use Rattle.format.proofs.Tests.{never, and-l, and-r, and-i, not-t}
+use Rattle.format.proofs.Answers.{need-ok, then-ok}
+use Rattle.format.proofs.Strings.{word-le16, solid, up-to-before, past-before, strip-strip, head-strip, drop-strip, up-to-strip, past-strip}
+use Rattle.format.proofs.Xor.{xor-closed}
+
+-- ---- a sealed block
+
+pub sealed-id : (id : ℕ) (p : List ℕ) → id < 65536 → idOf (sealed id p) ≡ id
+unfolding sealed le16
+sealed-id id p h = word-le16 id h
+
+pub sealed-length : (id : ℕ) (p : List ℕ) → length (sealed id p) ≡ length p + 4
+unfolding sealed le16
+sealed-length id p = omega arith
+
+sealed-first : (id : ℕ) (p : List ℕ) → getD (sealed id p) 0 0 ≡ length p + 4
+unfolding sealed le16
+sealed-first id p = refl
+
+sealed-xor : (id : ℕ) (p : List ℕ) → xorAll (sealed id p) ≡ 0
+unfolding sealed
+sealed-xor id p = xor-closed ((length p + 4) ∷ le16 id) p
+
+pub sealed-well : (id : ℕ) (p : List ℕ) → 1 ≤ id → id ≤ 100 → wellFormed (sealed id p) ≡ true
+unfolding wellFormed
+sealed-well id p lo hi =
+    let l = sealed-length id p in
+    rw (sealed-id id p (omega arith), le-leb id 100 hi, ne-eqb id 0 (omega arith))
+    (and-i (and-i (and-i (le-leb 3 (length (sealed id p)) (omega arith)) (eq-eqb (getD (sealed id p) 0 0) (length (sealed id p)) (sealed-first id p ∙ sym l))) refl)
+    (and-i (le-leb 4 (length (sealed id p)) (omega arith)) (eq-eqb (xorAll (sealed id p)) 0 (sealed-xor id p))))
+
+-- ---- a well-formed block
+
+pub record Whole (b : List ℕ) : Type 0 where
+  pub long : 3 ≤ length b
+  pub says : getD b 0 0 ≡ length b
+  pub named : eqb (idOf b) 0 ≡ false
+
+pub well-facts : (b : List ℕ) → wellFormed b ≡ true → Whole b
+unfolding wellFormed
+well-facts b w =
+    let x : Bool = leb 3 (length b) in
+    let y : Bool = eqb (getD b 0 0) (length b) in
+    let z : Bool = not (eqb (idOf b) 0) in
+    let h = and-l (x && y && z) _ w in
+    let xy = and-l (x && y) z h in
+    record { long = leb-true 3 (length b) (and-l x y xy); says = eqb-true (getD b 0 0) (length b) (and-r x y xy); named = not-t (eqb (idOf b) 0) (and-r (x && y) z h) }
+
+pub carried-facts : (b : List ℕ) → carriable b ≡ true → (wellFormed b ≡ true) × (isLibrary b ≡ false)
+unfolding carriable
+carried-facts b h = (and-l (wellFormed b) (not (isLibrary b)) h, not-t (isLibrary b) (and-r (wellFormed b) (not (isLibrary b)) h))
+
+-- ---- the walk
+
+-- a block at the front is taken, and the walk goes on behind it
+step : (f : ℕ) (seen : Bool) (b r : List ℕ) → wellFormed b ≡ true → not (isLibrary b && seen) ≡ true
+    → walk (suc f) seen (b ++ r) ≡ andThen (walk f (isLibrary b || seen) r) (λ bs. got (b ∷ bs))
+unfolding walk
+step f seen b r w o =
+    let k = well-facts b w in
+    let g : getD (b ++ r) 0 0 ≡ length b = List·getD-append b r 0 0 (omega (arith, k .long)) ∙ k .says in
+    rw (g, ne-eqb (length b) 0 (omega (arith, k .long)), ne-eqb (length b) 1 (omega (arith, k .long)), take-at b r (length b) refl, drop-at b r (length b) refl)
+    (then-ok _ _ tt (need-ok 5 (wellFormed b && not (isLibrary b && seen)) (and-i w o)))
+
+walk-zeros : (f m : ℕ) (seen : Bool) → walk f seen (replicate m 0) ≡ got []
+unfolding walk
+walk-zeros zero m seen = refl
+walk-zeros (suc f) zero seen = refl
+walk-zeros (suc f) (suc m) seen = refl
+
+-- carried blocks, and 00 to the end
+walk-carried : (f m : ℕ) (seen : Bool) (bs : List (List ℕ)) → all carriable bs ≡ true → length (joined bs ++ replicate m 0) ≤ f
+    → walk f seen (joined bs ++ replicate m 0) ≡ got bs
+unfolding all joined
+walk-carried f m seen [] h l = walk-zeros f m seen
+walk-carried zero m seen (b ∷ bs) h l =
+    let k = well-facts b (carried-facts b (and-l (carriable b) (all carriable bs) h) .0) in
+    absurd (omega (arith, length-append (b ++ joined bs) (replicate m 0), length-append b (joined bs), k .long))
+walk-carried (suc f) m seen (b ∷ bs) h l =
+    let c = carried-facts b (and-l (carriable b) (all carriable bs) h) in
+    let r : List ℕ = joined bs ++ replicate m 0 in
+    let o : not (isLibrary b && seen) ≡ true = rw (c .1) in
+    let k : length r ≤ f = omega (arith, length-append b r, ap length (append-assoc b (joined bs) (replicate m 0)), well-facts b (c .0) .long) in
+    rw (append-assoc b (joined bs) (replicate m 0))
+    (step f seen b r (c .0) o
+    ∙ rw (c .1) (then-ok (walk f seen r) (λ cs. got (b ∷ cs)) bs (walk-carried f m seen bs (and-r (carriable b) (all carriable bs) h) k)))
+
+-- ---- block 1
+
+unstripped : (f : Library) → strip (libraryBytes f) ≡ libraryBytes f
+unfolding libraryBytes
+unstripped f = strip-strip (f .media ∷ (f .item ++ (0 ∷ (f .owner ++ (0 ∷ f .usage ∷ [])))))
+
+payload-back : (f : Library) → payload (blockOne f) ≡ libraryBytes f
+unfolding payload blockOne sealed le16 strip
+payload-back f = go (libraryBytes f) (unstripped f)
+  where
+    go : (p : List ℕ) → strip p ≡ p → strip (drop 4 (if isEmpty p then [] else sealed 1 p)) ≡ p
+    go [] e = refl
+    go (x ∷ p) e = e
+
+last-one : (u : ℕ) → leb (length (strip (u ∷ []))) 1 ≡ true
+unfolding strip trim
+last-one zero = refl
+last-one (suc u) = refl
+
+module _ (f : Library) (i : solid (f .item) ≡ true) (o : solid (f .owner) ≡ true) where
+  tail : List ℕ
+  tail = f .owner ++ (0 ∷ f .usage ∷ [])
+
+  rest : List ℕ
+  rest = f .item ++ (0 ∷ tail)
+
+  -- what follows each separator
+  first-past : past 0 (drop 1 (libraryBytes f)) ≡ strip tail
+  unfolding libraryBytes rest tail
+  first-past = ap (past 0) (drop-strip (f .media) rest) ∙ past-strip rest ∙ ap strip (past-before 0 (f .item) tail i)
+
+  second-past : lastField (libraryBytes f) ≡ strip (f .usage ∷ [])
+  unfolding lastField tail
+  second-past = ap (past 0) first-past ∙ past-strip tail ∙ ap strip (past-before 0 (f .owner) (f .usage ∷ []) o)
+
+  -- the fields of block 1 come back
+  pub library-back : libraryIn (blockOne f) ≡ f
+  unfolding libraryIn libraryBytes rest tail
+  library-back =
+      rw (
+        payload-back f,
+        second-past,
+        first-past,
+        head-strip (f .media) rest,
+        drop-strip (f .media) rest,
+        up-to-strip rest,
+        up-to-strip tail,
+        up-to-before 0 (f .item) tail i,
+        up-to-before 0 (f .owner) (f .usage ∷ []) o,
+        head-strip (f .usage) [],
+      )
+
+  pub library-good : text (f .item) ≡ true → isEmpty (f .owner) || isOwner (f .owner) ≡ true → goodLibrary (blockOne f) ≡ true
+  unfolding goodLibrary
+  library-good t w = rw library-back (rw (payload-back f, second-past) (and-i (and-i (last-one (f .usage)) t) w))
+
+no-library : (cs : List (List ℕ)) → all carriable cs ≡ true → (libraryBlock cs ≡ []) × (otherBlocks cs ≡ cs)
+unfolding all libraryBlock otherBlocks
+no-library [] h = (refl, refl)
+no-library (b ∷ cs) h =
+    let c = carried-facts b (and-l (carriable b) (all carriable cs) h) in
+    let r = no-library cs (and-r (carriable b) (all carriable cs) h) in
+    (rw (c .1) (r .0), rw (c .1) (ap (λ (x : List (List ℕ)). b ∷ x) (r .1)))
+
+-- block 1 and the carried blocks, walked
+pub record Laid (one : List ℕ) (cs : List (List ℕ)) (m : ℕ) : Type 0 where
+  pub bs : List (List ℕ)
+  pub walks : chain (one ++ (joined cs ++ replicate m 0)) ≡ got bs
+  pub library : libraryBlock bs ≡ one
+  pub others : otherBlocks bs ≡ cs
+
+pub chain-laid : (f : Library) (cs : List (List ℕ)) (m : ℕ) → all carriable cs ≡ true → Laid (blockOne f) cs m
+unfolding blockOne chain libraryBlock otherBlocks sealed le16 word
+chain-laid f cs m h = go (libraryBytes f)
+  where
+    go : (p : List ℕ) → Laid (if isEmpty p then [] else sealed 1 p) cs m
+    go [] = let r = no-library cs h in record { bs = cs; walks = walk-carried _ m false cs h (le-refl _); library = r .0; others = r .1 }
+    go (x ∷ p) =
+        let b : List ℕ = sealed 1 (x ∷ p) in
+        let r : List ℕ = joined cs ++ replicate m 0 in
+        let n = no-library cs h in
+        record {
+          bs = b ∷ cs;
+          walks = step (length (drop 1 b ++ r)) false b r (sealed-well 1 (x ∷ p) (omega arith) (omega arith)) refl
+              ∙ then-ok (walk (length (drop 1 b ++ r)) true r) (λ bs. got (b ∷ bs)) cs (walk-carried (length (drop 1 b ++ r)) m true cs h (omega (arith, length-append (drop 1 b) r)));
+          library = refl;
+          others = n .1;
+        }

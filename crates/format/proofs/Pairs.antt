@@ -1,0 +1,133 @@
+-- Two tables of worked examples, each under a single statement that is computed: the pairs that document 01 marks P, and the whole case
+-- with the published examples B.1 and B.2 of the standard, each read and written.
+use Prim.Native.Nat.{ℕ, zero, suc, _+_, _%_, _/_}
+use mathlib.Core.Bool.{Bool, true, false, not, _&&_, _||_}
+use mathlib.Core.List.{List, [], _∷_, _++_}
+use lib.ListN.{length, replicate, take}
+use lib.Dec.{T, eqb}
+use Rattle.format.specs.Answers.{Answer, plain, got, refused, need, inOrder, afterwards, andThen, orElse, passed}
+use Rattle.format.specs.Bytes.{all, same, le16, word, padWith, trim, strip, upTo, past, xorAll, joined}
+use Rattle.format.specs.Pages.{pageSize, goodSize, lockMap, differs, count, changed, lockedChanged}
+use Rattle.format.specs.Crc.{crcBit, crcBits, crcByte, crcFrom, crc, covered}
+use Rattle.format.specs.Fields.{textByte, text, capital, unitByte, isilOf, isil, alternative, isOwner, goodItem, prefixIn, ownerSaid, goodOwner, itemField, packed, basicOwner, ownerField}
+use Rattle.format.specs.Chain.{wellFormed, carriable, walk, chain, libraryBlock, otherBlocks, payload, lastField, libraryIn, goodLibrary, libraryBytes, sealed, blockOne}
+use Rattle.format.specs.Elements.{numbers, setInfo, shape, form, value, placeIn, place, known, put, clash}
+use Rattle.format.specs.Sheet.{heads, bodies, sheetOf, offsetsFit, risingFrom, rising, cut, entriesIn, rightSheet, find, carriedIn, contentOf, goodValues, entriesAt, carriedEntries, entries}
+use Rattle.format.specs.Layout.{library, front, basic, laidOut, image, fits}
+use Rattle.format.specs.Reading.{goodFields, agree, ownerOn, contentIn, tagSteps}
+use Rattle.format.specs.Calls.{readSteps, reading, layingSteps, writeSteps, writing, ownLayout, editSteps, Edited, editing}
+
+-- ---- ways to say what came out
+
+abbrev gives : Answer ℕ → ℕ → Bool
+gives (got n) m = eqb n m
+gives (refused x) m = false
+
+abbrev refuses : Answer ℕ → ℕ → Bool
+refuses (got n) k = false
+refuses (refused (plain n)) k = eqb n k
+
+abbrev zeros : ℕ → List ℕ
+zeros n = replicate n 0
+
+-- reading t into just enough room gives the sheet s; writing s onto an open tag of 00 gives t; into one byte less is refused 2
+abbrev isSheetOf : List ℕ → List ℕ → Bool
+isSheetOf s t =
+    let r = reading pageSize t (zeros (length s)) in
+    let w = writing pageSize s (zeros (length t)) (zeros (length t / pageSize)) in
+    gives (r .answer) (length s) && same (r .sheet) s && same (w .tag) t && gives (w .answer) (changed pageSize (zeros (length t)) t)
+    && refuses (reading pageSize t (zeros 20) .answer) 2
+
+-- ---- the pairs marked P
+
+digits : List ℕ
+digits = 0x31 ∷ 0x32 ∷ 0x33 ∷ 0x34 ∷ 0x35 ∷ 0x36 ∷ 0x37 ∷ 0x38 ∷ 0x39 ∷ []
+
+-- elements 4 (parts and ordinal equal) and 5
+setSheet : ℕ → ℕ → List ℕ
+setSheet low high = 2 ∷ 0 ∷ 4 ∷ 10 ∷ 0 ∷ 4 ∷ 5 ∷ 14 ∷ 0 ∷ 1 ∷ low ∷ high ∷ low ∷ high ∷ 0x10 ∷ []
+
+isilUs : List ℕ
+isilUs = 0x55 ∷ 0x53 ∷ 0x2D ∷ 0x49 ∷ 0x6E ∷ 0x55 ∷ 0x2D ∷ 0x4D ∷ 0x75 ∷ []
+
+pub pairs : List Bool
+pairs =
+    -- CRC of nothing, of 00, of FF, of the text 123456789
+    eqb (crc []) 0xFFFF ∷ eqb (crc (0 ∷ [])) 0xE1F0 ∷ eqb (crc (0xFF ∷ [])) 0xFF00 ∷ eqb (crc digits) 0x29B1 ∷
+    -- tag lengths 0, 33, 34 and 2,052 are refused 1; 36 passes it
+    refuses (reading pageSize [] [] .answer) 1 ∷ refuses (reading pageSize (zeros 33) [] .answer) 1 ∷ refuses (reading pageSize (zeros 34) [] .answer) 1 ∷
+    refuses (reading pageSize (zeros 2052) [] .answer) 1 ∷ refuses (reading pageSize (zeros 36) [] .answer) 3 ∷
+    -- parts 255, ordinal 255 writes FF FF; parts 256 is refused 9
+    same (take 3 (writing pageSize (setSheet 255 0) (zeros 36) (zeros 9) .tag)) (0x11 ∷ 0xFF ∷ 0xFF ∷ []) ∷
+    refuses (writing pageSize (setSheet 0 1) (zeros 36) (zeros 9) .answer) 9 ∷
+    -- US-InU-Mu fills the owner field with USInU-Mu and five 00
+    same (ownerField 13 isilUs) (0x55 ∷ 0x53 ∷ 0x49 ∷ 0x6E ∷ 0x55 ∷ 0x2D ∷ 0x4D ∷ 0x75 ∷ zeros 5) ∷
+    []
+
+pub pairs-hold : T (all (λ b. b) pairs)
+unfolding pairs digits setSheet isilUs need inOrder afterwards andThen orElse passed all same le16 word padWith trim strip upTo past xorAll joined goodSize lockMap differs count changed lockedChanged crcBit crcBits crcByte crcFrom crc covered textByte text capital unitByte isilOf isil alternative isOwner goodItem prefixIn ownerSaid goodOwner itemField packed basicOwner ownerField wellFormed carriable walk chain libraryBlock otherBlocks payload lastField libraryIn goodLibrary libraryBytes sealed blockOne numbers setInfo shape form value placeIn place known put clash heads bodies sheetOf offsetsFit risingFrom rising cut entriesIn rightSheet find carriedIn contentOf goodValues entriesAt carriedEntries entries library front basic laidOut image fits goodFields agree ownerOn contentIn tagSteps readSteps reading layingSteps writeSteps writing
+pairs-hold = tt
+
+-- ---- the whole case, and the standard's examples
+
+wholeSheet : List ℕ
+wholeSheet = 3 ∷ 0 ∷ 1 ∷ 0x0E ∷ 0 ∷ 2 ∷ 4 ∷ 0x10 ∷ 0 ∷ 4 ∷ 5 ∷ 0x14 ∷ 0 ∷ 1 ∷ 0x42 ∷ 0x31 ∷ 1 ∷ 0 ∷ 1 ∷ 0 ∷ 0x10 ∷ []
+
+wholeFront : List ℕ
+wholeFront = 0x11 ∷ 1 ∷ 1 ∷ 0x42 ∷ 0x31 ∷ zeros 14
+
+wholeTag : List ℕ
+wholeTag = wholeFront ++ (le16 (crc (wholeFront ++ zeros 13)) ++ zeros 15)
+
+-- DK-718500, in a sheet and in the owner field
+isilDk : List ℕ
+isilDk = 0x44 ∷ 0x4B ∷ 0x2D ∷ 0x37 ∷ 0x31 ∷ 0x38 ∷ 0x35 ∷ 0x30 ∷ 0x30 ∷ []
+
+fieldDk : List ℕ
+fieldDk = 0x44 ∷ 0x4B ∷ 0x37 ∷ 0x31 ∷ 0x38 ∷ 0x35 ∷ 0x30 ∷ 0x30 ∷ []
+
+-- B.1: 1000000056 of DK-718500, one part, usage 1, on 32 bytes; its CRC is printed as 98 A4
+item1 : List ℕ
+item1 = 0x31 ∷ 0x30 ∷ 0x30 ∷ 0x30 ∷ 0x30 ∷ 0x30 ∷ 0x30 ∷ 0x30 ∷ 0x35 ∷ 0x36 ∷ []
+
+tag1 : List ℕ
+tag1 = 0x11 ∷ 1 ∷ 1 ∷ item1 ++ (zeros 6 ++ (0x98 ∷ 0xA4 ∷ fieldDk ++ zeros 3))
+
+sheet1 : List ℕ
+sheet1 = 4 ∷ 0 ∷ 1 ∷ 18 ∷ 0 ∷ 10 ∷ 3 ∷ 28 ∷ 0 ∷ 9 ∷ 4 ∷ 37 ∷ 0 ∷ 4 ∷ 5 ∷ 41 ∷ 0 ∷ 1 ∷ item1 ++ (isilDk ++ (1 ∷ 0 ∷ 1 ∷ 0 ∷ 0x10 ∷ []))
+
+-- B.2: 1000000136, a book, with block 1 and an acquisition block, on 76 bytes; its CRC is printed as 36 15
+item2 : List ℕ
+item2 = 0x31 ∷ 0x30 ∷ 0x30 ∷ 0x30 ∷ 0x30 ∷ 0x30 ∷ 0x30 ∷ 0x31 ∷ 0x33 ∷ 0x36 ∷ []
+
+acquisition : List ℕ
+acquisition =
+    0x22 ∷ 2 ∷ 0 ∷ 0x71 ∷ 0x42 ∷ 0x6F ∷ 0x67 ∷ 0x76 ∷ 0x6F ∷ 0x67 ∷ 0x6E ∷ 0x65 ∷ 0x6E ∷ 0 ∷ 0x31 ∷ 0x32 ∷ 0x33 ∷ 0x34 ∷ 0x35 ∷ 0x36 ∷ 0x37 ∷ 0x38 ∷ 0x39 ∷ 0x30 ∷ 0 ∷ 0 ∷
+    0x61 ∷ 0x37 ∷ 0x38 ∷ 0x39 ∷ 0x36 ∷ 0x35 ∷ 0x36 ∷ 0x63 ∷ []
+
+tag2 : List ℕ
+tag2 = 0x11 ∷ 1 ∷ 1 ∷ item2 ++ (zeros 6 ++ (0x36 ∷ 0x15 ∷ fieldDk ++ (zeros 5 ++ (5 ∷ 1 ∷ 0 ∷ 5 ∷ 1 ∷ acquisition ++ zeros 3))))
+
+sheet2 : List ℕ
+sheet2 =
+    6 ∷ 0 ∷ 1 ∷ 26 ∷ 0 ∷ 10 ∷ 3 ∷ 36 ∷ 0 ∷ 9 ∷ 4 ∷ 45 ∷ 0 ∷ 4 ∷ 5 ∷ 49 ∷ 0 ∷ 1 ∷ 19 ∷ 50 ∷ 0 ∷ 1 ∷ 255 ∷ 51 ∷ 0 ∷ 34 ∷
+    item2 ++ (isilDk ++ (1 ∷ 0 ∷ 1 ∷ 0 ∷ 0x10 ∷ 1 ∷ acquisition))
+
+-- the owner of B.2 changed and changed back, the old element handed out each time
+changedBack : Bool
+changedBack =
+    let a = editing pageSize tag2 (zeros 19) 3 isilUs (zeros 255) in
+    let b = editing pageSize (a .tag) (zeros 19) 3 (take 9 (a .old)) (zeros 255) in
+    not (same (a .tag) tag2) && same (take 9 (a .old)) isilDk && same (b .tag) tag2 && same (take 9 (b .old)) isilUs && samePages (a .answer) (b .answer)
+  where
+    samePages : Answer Edited → Answer Edited → Bool
+    samePages (got x) (got y) = eqb (x .pages) (y .pages) && eqb (x .old) 9
+    samePages (got x) (refused y) = false
+    samePages (refused x) y = false
+
+pub examples : List Bool
+examples = isSheetOf wholeSheet wholeTag ∷ isSheetOf sheet1 tag1 ∷ isSheetOf sheet2 tag2 ∷ changedBack ∷ []
+
+pub examples-hold : T (all (λ b. b) examples)
+unfolding examples isilUs wholeSheet wholeFront wholeTag isilDk fieldDk item1 tag1 sheet1 item2 acquisition tag2 sheet2 changedBack need inOrder afterwards andThen orElse passed all same le16 word padWith trim strip upTo past xorAll joined goodSize lockMap differs count changed lockedChanged crcBit crcBits crcByte crcFrom crc covered textByte text capital unitByte isilOf isil alternative isOwner goodItem prefixIn ownerSaid goodOwner itemField packed basicOwner ownerField wellFormed carriable walk chain libraryBlock otherBlocks payload lastField libraryIn goodLibrary libraryBytes sealed blockOne numbers setInfo shape form value placeIn place known put clash heads bodies sheetOf offsetsFit risingFrom rising cut entriesIn rightSheet find carriedIn contentOf goodValues entriesAt carriedEntries entries library front basic laidOut image fits goodFields agree ownerOn contentIn tagSteps readSteps reading layingSteps writeSteps writing ownLayout editSteps editing
+examples-hold = tt

@@ -1,0 +1,198 @@
+-- The promises about the three calls, in one place and in the words of the demands. Everything is said of `reading`, `writing` and
+-- `editing` (specs/Calls.antt), the very functions that the contracts cite through `Reads`, `Writes` and `Edits` (specs/Numbers.antt).
+use mathlib.Core.Path.{_≡_, refl, sym, ap, ap₂, _∙_}
+use Prim.Native.Nat.{ℕ, _+_, _≤_, _<_}
+use mathlib.Core.Bool.{Bool, true, false, _&&_}
+use mathlib.Core.List.{List, [], _∷_}
+use lib.ListN.{length, take}
+use Rattle.format.specs.Answers.{Answer, Refusal, plain, got, refused, Step, inOrder}
+use Rattle.format.specs.Bytes.{bytes, filled, joined}
+use Rattle.format.specs.Pages.{goodSize, lockMap, changed, lockedChanged, openPages, Kept}
+use Rattle.format.specs.Elements.{Content, partsOf, required, known, el, put, sound}
+use Rattle.format.specs.Sheet.{Entry, sheetOf, fitting, entriesIn, rightSheet, find, contentOf, goodValues, entries}
+use Rattle.format.specs.Layout.{ownerWidth, laidOut, image, fits}
+use Rattle.format.specs.Reading.{blocksIn, contentIn, tagSteps}
+use Rattle.format.specs.Calls.{sheetIn, readSteps, reading, sheetContent, writeSteps, writing, ownLayout, editSteps, Edited, editing}
+use Rattle.format.specs.Numbers.{readGiven, writeGiven, editGiven, readNumbers, writeNumbers, editNumbers, Reads, Writes, Edits}
+use Rattle.format.specs.History.{Own, Edit, State, run, Undone}
+use Rattle.format.specs.declared.ReadAnswer.{ReadAnswer}
+use Rattle.format.specs.declared.ReadAnswer.the-variants as read
+use Rattle.format.specs.declared.WriteAnswer.{WriteAnswer}
+use Rattle.format.specs.declared.WriteAnswer.the-variants as write
+use Rattle.format.specs.declared.EditAnswer.{EditAnswer}
+use Rattle.format.specs.declared.EditAnswer.the-variants as edit
+use Rattle.format.proofs.Tests.{never, and-l, and-r}
+use Rattle.format.proofs.Answers.{got-inj, FirstRefusal, refuses, refused-first, Passed, works, worked, next-ok, next-no}
+use Rattle.format.proofs.Refusals.{Each, read-order, write-order, edit-order, oneOf, listed, read-unchanged, write-unchanged, edit-unchanged}
+use Rattle.format.proofs.Readable.{Readable, on-readable}
+use Rattle.format.proofs.Slots.{put-same}
+use Rattle.format.proofs.Sheets.{Right, sheet-right, right-sheet}
+use Rattle.format.proofs.Entries.{entries-content, values-parts, Entered, content-entries, wide-parts}
+use Rattle.format.proofs.Sound.{read-sound}
+use Rattle.format.proofs.Shorter.{read-fits, laid-shorter, read-fitting}
+use Rattle.format.proofs.Laying.{laid-open, own-read, layout-own}
+use Rattle.format.proofs.Writes.{Written, write-accepted, write-tag, written-own, written-read, write-own}
+use Rattle.format.proofs.Edits.{Accepted, accepted-edit, edit-accepted, edit-tag, same-accepted, same-given}
+use Rattle.format.proofs.Histories.{Good, begin, begun, history}
+
+-- ==== Demand 1: one answer and one content for each buffer, on every input; a refusal changes nothing and gives only its number
+
+-- two outcomes that fit a call's contract are equal, answer and buffers
+read-same : (r r′ : ReadAnswer) → readGiven r ≡ readGiven r′ → r ≡ r′
+read-same (read.Done n) (read.Done m) e = let k : n ≡ m = cc in ap read.Done k
+read-same (read.Done n) (read.Refused m) e = never (cc)
+read-same (read.Refused n) (read.Done m) e = never (cc)
+read-same (read.Refused n) (read.Refused m) e = let k : n ≡ m = cc in ap read.Refused k
+
+pub reads-one : (t buffer : List ℕ) (r r′ : ReadAnswer) (s s′ : List ℕ) → Reads t buffer r s → Reads t buffer r′ s′ → (r ≡ r′) × (s ≡ s′)
+reads-one t buffer r r′ s s′ a b = (read-same r r′ (a .answered ∙ sym (b .answered)), a .left ∙ sym (b .left))
+
+write-same : (r r′ : WriteAnswer) → writeGiven r ≡ writeGiven r′ → r ≡ r′
+write-same (write.Done n) (write.Done m) e = let k : n ≡ m = cc in ap write.Done k
+write-same (write.Done n) (write.Refused m) e = never (cc)
+write-same (write.Refused n) (write.Done m) e = never (cc)
+write-same (write.Refused n) (write.Refused m) e = let k : n ≡ m = cc in ap write.Refused k
+
+pub writes-one : (s t locks : List ℕ) (r r′ : WriteAnswer) (tag tag′ : List ℕ) → Writes s t locks r tag → Writes s t locks r′ tag′ → (r ≡ r′) × (tag ≡ tag′)
+writes-one s t locks r r′ tag tag′ a b = (write-same r r′ (a .answered ∙ sym (b .answered)), a .left ∙ sym (b .left))
+
+edit-same : (r r′ : EditAnswer) → editGiven r ≡ editGiven r′ → r ≡ r′
+edit-same (edit.Done p o) (edit.Done q m) e = let k = got-inj e in ap₂ edit.Done (ap (λ (x : Edited). x .pages) k) (ap (λ (x : Edited). x .old) k)
+edit-same (edit.Done p o) (edit.Refused m) e = never (cc)
+edit-same (edit.Refused n) (edit.Done q m) e = never (cc)
+edit-same (edit.Refused n) (edit.Refused m) e = let k : n ≡ m = cc in ap edit.Refused k
+
+pub edits-one : (t locks : List ℕ) (n : ℕ) (s buffer : List ℕ) (r r′ : EditAnswer) (tag tag′ old old′ : List ℕ)
+    → Edits t locks n s buffer r tag old → Edits t locks n s buffer r′ tag′ old′ → (r ≡ r′) × (tag ≡ tag′) × (old ≡ old′)
+edits-one t locks n s buffer r r′ tag tag′ old old′ a b = (edit-same r r′ (a .answered ∙ sym (b .answered)), a .left ∙ sym (b .left), a .handed ∙ sym (b .handed))
+
+-- a call, as a list of steps, refuses with x exactly when a step refuses with x and no earlier one refuses
+pub refuses-exactly : {A : Type 0} (x : Refusal) (ss : List Step) (a : A) → (FirstRefusal x ss → inOrder ss a ≡ refused x) × (inOrder ss a ≡ refused x → FirstRefusal x ss)
+refuses-exactly x ss a = (refuses x ss a, refused-first x ss a)
+
+-- and does its work exactly when every step is passed
+pub works-exactly : {A : Type 0} (ss : List Step) (a : A) → (Passed ss → inOrder ss a ≡ got a) × (inOrder ss a ≡ got a → Passed ss)
+works-exactly ss a = (works ss a, λ e. worked ss a a e .0)
+
+-- the steps refuse with the call's numbers, in the paper's order (so the number given is one of the list)
+pub reading-order : (p room : ℕ) (t : List ℕ) → Each readNumbers (readSteps p room t)
+reading-order = read-order
+
+pub writing-order : (p : ℕ) (s t locks : List ℕ) → Each writeNumbers (writeSteps p s t locks)
+writing-order = write-order
+
+pub editing-order : (p room : ℕ) (t locks : List ℕ) (n : ℕ) (s : List ℕ) → Each editNumbers (editSteps p room t locks n s)
+editing-order = edit-order
+
+pub reading-listed : (p : ℕ) (t buffer : List ℕ) (x : Refusal) → reading p t buffer .answer ≡ refused x → (k : ℕ) × (x ≡ plain k) × (oneOf readNumbers k ≡ true)
+unfolding reading
+reading-listed p t buffer x e = listed readNumbers (readSteps p (length buffer) t) _ x (read-order p (length buffer) t) e
+
+pub writing-listed : (p : ℕ) (s t locks : List ℕ) (x : Refusal) → writing p s t locks .answer ≡ refused x → (k : ℕ) × (x ≡ plain k) × (oneOf writeNumbers k ≡ true)
+unfolding writing
+writing-listed p s t locks x e = listed writeNumbers (writeSteps p s t locks) _ x (write-order p s t locks) e
+
+pub editing-listed : (p : ℕ) (t locks : List ℕ) (n : ℕ) (s buffer : List ℕ) (x : Refusal) → editing p t locks n s buffer .answer ≡ refused x
+    → (k : ℕ) × (x ≡ plain k) × (oneOf editNumbers k ≡ true)
+unfolding editing
+editing-listed p t locks n s buffer x e = listed editNumbers (editSteps p (length buffer) t locks n s) _ x (edit-order p (length buffer) t locks n s) e
+
+-- at a refusal every buffer is as at entry
+pub reading-unchanged : (p : ℕ) (t buffer : List ℕ) (x : Refusal) → reading p t buffer .answer ≡ refused x → reading p t buffer .sheet ≡ buffer
+reading-unchanged = read-unchanged
+
+pub writing-unchanged : (p : ℕ) (s t locks : List ℕ) (x : Refusal) → writing p s t locks .answer ≡ refused x → writing p s t locks .tag ≡ t
+writing-unchanged = write-unchanged
+
+pub editing-unchanged : (p : ℕ) (t locks : List ℕ) (n : ℕ) (s buffer : List ℕ) (x : Refusal) → editing p t locks n s buffer .answer ≡ refused x
+    → (editing p t locks n s buffer .tag ≡ t) × (editing p t locks n s buffer .old ≡ buffer)
+editing-unchanged = edit-unchanged
+
+-- ==== Demand 2: reading and writing agree
+
+-- a sheet taken apart and put together
+pub apart-together : (s : List ℕ) → rightSheet s ≡ true → goodValues (entriesIn s) ≡ true → (sheetOf (entriesIn s) ≡ s) × (entries (sheetContent s) ≡ entriesIn s)
+apart-together s r v = let h = sheet-right s r in (h .sheet, entries-content (entriesIn s) (h .order) (values-parts (entriesIn s) v .0))
+
+-- elements put together into a sheet and taken apart
+pub together-apart : (c : Content) → sound c ≡ true → fitting (entries c) ≡ true
+    → (rightSheet (sheetOf (entries c)) ≡ true) × (goodValues (entriesIn (sheetOf (entries c))) ≡ true) × (sheetContent (sheetOf (entries c)) ≡ c)
+together-apart c s f =
+    let k = content-entries c s in
+    let r = right-sheet (entries c) f (k .order) in
+    (r .0, ap goodValues (r .1) ∙ k .values, ap contentOf (r .1) ∙ k .content)
+
+-- what is written reads back as the same elements: where writing accepts, reading the new tag with room enough gives exactly that sheet
+pub written-reads-back : (p : ℕ) (s t locks : List ℕ) (k : ℕ) → writing p s t locks .answer ≡ got k → (buffer : List ℕ) → length s ≤ length buffer
+    → let r = reading p (writing p s t locks .tag) buffer in (r .answer ≡ got (length s)) × (r .sheet ≡ filled s buffer)
+written-reads-back p s t locks k e buffer room =
+    rw (write-tag p s t locks k e) (written-read p s t locks k (write-accepted p s t locks k e) buffer room)
+
+-- what is read is sound, and its layout exists and is no longer than what was read
+pub what-is-read : (p : ℕ) (t : List ℕ) → bytes t ≡ true → goodSize p (length t) ≡ true → Readable t
+    → (sound (contentIn t) ≡ true) × (fits (length t) (contentIn t) ≡ true)
+    × (length (laidOut (length t) (contentIn t)) ≤ 21 + ownerWidth (length t) + length (joined (blocksIn t)))
+what-is-read p t y g r = (read-sound t y r, read-fits p t y g r, laid-shorter p t y g r)
+
+-- no offset of a sheet that is read passes 65,535
+pub offsets-fit : (p : ℕ) (t : List ℕ) → bytes t ≡ true → goodSize p (length t) ≡ true → Readable t → fitting (entries (contentIn t)) ≡ true
+offsets-fit = read-fitting
+
+-- a number that its field cannot hold is refused: a sheet with more than 255 parts is 9
+pub parts-refused : (p : ℕ) (s t locks : List ℕ) → goodSize p (length t) && lockMap p locks (length t) ≡ true → rightSheet s ≡ true
+    → 255 < partsOf (find 4 (entriesIn s)) → writing p s t locks .answer ≡ refused (plain 9)
+unfolding writing writeSteps
+parts-refused p s t locks z r w = next-ok _ _ _ _ z ∙ next-ok _ _ _ _ r ∙ next-no _ _ _ _ (wide-parts (entriesIn s) w)
+
+-- a write never changes more pages than are open
+pub write-open : (p : ℕ) (s t locks : List ℕ) (k : ℕ) → writing p s t locks .answer ≡ got k → k ≤ openPages locks
+write-open p s t locks k e =
+    let w = write-accepted p s t locks k e in
+    rw (sym (w .pages)) (laid-open p locks t (sheetContent s) (w .laid) (and-r (goodSize p (length t)) (lockMap p locks (length t)) (w .sized)))
+
+-- ==== Demand 3: every history of edits
+
+-- A tag is in the writer's own layout if the writer left it there,
+pub written-is-own : (p : ℕ) (s t locks : List ℕ) (k : ℕ) → writing p s t locks .answer ≡ got k → Own (sheetContent s) (writing p s t locks .tag)
+written-is-own p s t locks k e = rw (write-tag p s t locks k e) (written-own p s t locks k (write-accepted p s t locks k e))
+
+-- or if it is readable and the editor finds it so;
+pub taken-is-own : (t : List ℕ) → bytes t ≡ true → Readable t → ownLayout t ≡ true → Own (contentIn t) t
+taken-is-own t y r o = layout-own t (read-sound t y r) o
+
+-- and then it is byte for byte what the writer lays down for its elements, on any tag of that length whose locked pages agree.
+pub own-is-written : (p : ℕ) (locks t₀ t : List ℕ) (c : Content) → Own c t → bytes t ≡ true → length t₀ ≡ length t
+    → goodSize p (length t) && lockMap p locks (length t) ≡ true → lockedChanged p locks t₀ t ≡ 0
+    → (writing p (sheetOf (entries c)) t₀ locks .answer ≡ got (changed p t₀ t)) × (writing p (sheetOf (entries c)) t₀ locks .tag ≡ t)
+own-is-written p locks t₀ t c o y n z l =
+    let g = and-l (goodSize p (length t)) (lockMap p locks (length t)) z in
+    let r = own-read p c t g o in
+    write-own p locks t₀ t c o (ap (λ (x : Content). fitting (entries x)) (sym (r .1)) ∙ read-fitting p t y g (r .0)) n z l
+
+-- Start with a tag in the writer's own layout, a lock map that stays the same, and a buffer of 255 bytes or more for the old element
+-- at every call. Make any edits in any number, refused ones among them. After each, the tag is byte for byte what the writer would lay
+-- down for the starting elements with the accepted edits applied, and no locked page has changed. Hand the old elements back, newest
+-- first: each is accepted, each brings the tag back to its earlier bytes, and each changes as many pages as its edit did.
+pub every-history : (p : ℕ) (locks t : List ℕ) (c : Content) → Own c t → (es : List Edit)
+    → let st : State = run p locks (begin p locks t c) es in
+    Own (st .content) (st .tag) × Kept p locks t (st .tag) × Undone p locks (st .tag) (st .kept)
+every-history p locks t c o es =
+    let g = history p locks t (begin p locks t c) es (begun p locks t c o) in
+    (g .own, g .kept, g .undone)
+
+-- an edit never changes more pages than are open
+pub edit-open : (p : ℕ) (t locks : List ℕ) (c : Content) → Own c t → (n : ℕ) (s buffer : List ℕ) (r : Edited) → editing p t locks n s buffer .answer ≡ got r → r .pages ≤ openPages locks
+edit-open p t locks c o n s buffer r e =
+    let a = accepted-edit p locks t c o n s buffer r e in
+    rw (sym (ap (λ (x : Edited). x .pages) (a .1))) (laid-open p locks t (put c n s) (a .0 .laid) (and-r (goodSize p (length t)) (lockMap p locks (length t)) (a .0 .sized)))
+
+-- setting what is already there is accepted and changes 0 pages; where nothing is there, that is removing an absent element
+pub same-changes-nothing : (p : ℕ) (t locks : List ℕ) (c : Content) → Own c t → (n : ℕ) (buffer : List ℕ)
+    → goodSize p (length t) && lockMap p locks (length t) ≡ true → 255 ≤ length buffer → known n ≡ true
+    → (editing p t locks n (el c n) buffer .answer ≡ got (record { pages = 0; old = length (el c n) })) × (editing p t locks n (el c n) buffer .tag ≡ t)
+same-changes-nothing p t locks c o n buffer z r k =
+    let a = edit-accepted p locks t c o n (el c n) buffer (same-accepted p locks t c o n (length buffer) z r k) in
+    let ci = own-read p c t (and-l (goodSize p (length t)) (lockMap p locks (length t)) z) o .1 in (
+      a ∙ ap got (same-given p t c o n),
+      edit-tag p t locks n (el c n) buffer _ a ∙ ap (λ (x : Content). image (length t) (put x n (el c n))) ci ∙ ap (image (length t)) (put-same c n) ∙ o .lies,
+    )

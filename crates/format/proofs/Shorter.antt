@@ -1,0 +1,417 @@
+-- The layout of what a readable tag holds exists on that tag: no block of it is longer than what was read, and no sheet of it has an
+-- offset above 65,535.
+use mathlib.Core.Path.{_≡_, refl, sym, ap, ap₂, _∙_}
+use mathlib.Core.Logic.{_⊎_, inl, inr}
+use Prim.Native.Nat.{ℕ, zero, suc, _+_, _-_, _*_, _/_, _%_, _≤_, _<_, min}
+use native.Mathlib.Nat.{le-refl}
+use native.Mathlib.Omega.{arith}
+use mathlib.Core.Bool.{Bool, true, false, not, _&&_, _||_, Bool·beq}
+use mathlib.Core.List.{List, [], _∷_, _++_}
+use lib.Dec.{eqb, leb}
+use lib.ListN.{length, take, drop, getD, length-take, length-drop, length-append, length-replicate, replicate}
+use borrow.Author.Tests.{eqb-true, ne-eqb, eqb-false, leb-true, le-leb, leb-false, lt-leb}
+use Rattle.format.specs.Answers.{Answer, got, refused, need, andThen}
+use Rattle.format.specs.Bytes.{if_then_else_, isEmpty, all, bytes, same, part, padWith, strip, trim, upTo, past, joined}
+use Rattle.format.specs.Pages.{goodSize}
+use Rattle.format.specs.Fields.{text, isilOf, isil, hyphen, blank, alternate, alternative, isOwner, marker, marked, goodItem, prefixIn, ownerSaid, goodOwner, long, packed, basicOwner}
+use Rattle.format.specs.Chain.{idOf, wellFormed, isLibrary, walk, chain, libraryBlock, otherBlocks, Library, payload, lastField, libraryIn, libraryBytes, sealed, blockOne}
+use Rattle.format.specs.Elements.{Content, numbers, placeIn, place, el, form, value, valuesAt}
+use Rattle.format.specs.Sheet.{Entry, bodies, bodyAt, offsetsFit, fitting, entriesAt, carriedEntries, entries}
+use Rattle.format.specs.Layout.{ownerWidth, ownerOf, usageOf, library, basic, laidOut, fits}
+use Rattle.format.specs.Reading.{mainUsage, itemIn, ownerIn, walked, blocksIn, libraryOn, ownerOn, contentIn}
+use Rattle.format.proofs.Tests.{never, and-l, and-r, and-i, not-t, or-inv, or-r, same-eq, same-refl}
+use Rattle.format.proofs.Answers.{need-inv, then-inv, got-inj}
+use Rattle.format.proofs.Strings.{empty-of, part-length, strip-length, strip-strip, length-pad, up-to-before, past-before}
+use Rattle.format.proofs.Fields.{Isil, isil-facts, isil-first, Alternative, alternative-facts}
+use Rattle.format.proofs.Blocks.{Whole, well-facts, carried-facts, sealed-length}
+use Rattle.format.proofs.Slots.{Sound, sound-parts, form-carriable}
+use Rattle.format.proofs.Values.{value-short}
+use Rattle.format.proofs.Readable.{Readable}
+use Rattle.format.proofs.Layouts.{basic-length, size-cases, size-most}
+use Rattle.format.proofs.Sound.{capitals-unhyphened, isil-made, prefix-length, Fields, fields-parts, agree-owner, library-tests, library-short, blocks-handed, read-sound}
+
+-- ---- how much of a string is left when it is stripped
+
+abbrev left : List ℕ → ℕ
+left s = length (strip s)
+
+trim-mono : (x : ℕ) (a b : List ℕ) → length a ≤ length b → length (trim x a) ≤ length (trim x b)
+unfolding trim
+trim-mono zero [] b h = omega arith
+trim-mono zero (y ∷ a) [] h = absurd (omega arith)
+trim-mono zero (y ∷ a) (z ∷ b) h = omega arith
+trim-mono (suc x) a b h = omega arith
+
+trim-more : (x : ℕ) (a : List ℕ) → length a ≤ length (trim x a)
+unfolding trim
+trim-more zero [] = omega arith
+trim-more zero (y ∷ a) = omega arith
+trim-more (suc x) a = omega arith
+
+left-cons : (x : ℕ) (a b : List ℕ) → left a ≤ left b → left (x ∷ a) ≤ left (x ∷ b)
+unfolding strip
+left-cons x a b h = trim-mono x (strip a) (strip b) h
+
+left-more : (i a : List ℕ) → left a ≤ left (i ++ a)
+unfolding strip
+left-more [] a = le-refl _
+left-more (x ∷ i) a = omega (arith, left-more i a, trim-more x (strip (i ++ a)))
+
+left-append : (i a b : List ℕ) → left a ≤ left b → left (i ++ a) ≤ left (i ++ b)
+left-append [] a b h = h
+left-append (x ∷ i) a b h = left-cons x (i ++ a) (i ++ b) (left-append i a b h)
+
+-- with i or without it
+left-less : (j i a b : List ℕ) → (j ≡ i) ⊎ (j ≡ []) → left a ≤ left b → left (j ++ a) ≤ left (i ++ b)
+left-less j i a b (inl e) h = rw e (left-append i a b h)
+left-less j i a b (inr e) h = rw e (omega (arith, h, left-more i b))
+
+-- ---- block 1 put together again from its fields
+
+-- up to the separator, and behind it what strips alike
+strip-parted : (r x : List ℕ) → strip x ≡ strip (past 0 r) → strip (upTo 0 r ++ 0 ∷ x) ≡ strip r
+unfolding strip upTo past trim
+strip-parted [] x e = ap (trim 0) e
+strip-parted (y ∷ r) x e = go (eqb y 0) refl (strip-parted r x) e
+  where
+    go : (t : Bool) → eqb y 0 ≡ t → (strip x ≡ strip (past 0 r) → strip (upTo 0 r ++ 0 ∷ x) ≡ strip r) → strip x ≡ strip (if t then r else past 0 r)
+        → strip ((if t then [] else y ∷ upTo 0 r) ++ 0 ∷ x) ≡ trim y (strip r)
+    go true q ih e = ap₂ trim (sym (eqb-true y 0 q)) e
+    go false q ih e = ap (trim y) (ih e)
+
+last-strip : (u : List ℕ) → length u ≤ 1 → strip (getD u 0 0 ∷ []) ≡ strip u
+unfolding strip trim
+last-strip [] h = refl
+last-strip (x ∷ []) h = refl
+last-strip (x ∷ y ∷ u) h = absurd (omega arith)
+
+pub library-rebuilt : (b : List ℕ) → length (lastField (payload b)) ≤ 1 → libraryBytes (libraryIn b) ≡ payload b
+unfolding libraryBytes libraryIn lastField payload strip trim upTo past
+library-rebuilt b h = go (payload b) (strip-strip (drop 4 b)) h
+  where
+    go : (p : List ℕ) → strip p ≡ p → length (past 0 (past 0 (drop 1 p))) ≤ 1
+        → strip (getD p 0 0 ∷ (upTo 0 (drop 1 p) ++ (0 ∷ (upTo 0 (past 0 (drop 1 p)) ++ (0 ∷ getD (past 0 (past 0 (drop 1 p))) 0 0 ∷ []))))) ≡ p
+    go [] e h = refl
+    go (m ∷ r) e h = ap (trim m) (strip-parted r _ (strip-parted (past 0 r) _ (last-strip (past 0 (past 0 r)) h))) ∙ e
+
+-- block 1 with some of its fields left out is no longer
+pub record Less (f g : Library) : Type 0 where
+  pub media : f .media ≡ g .media
+  pub item : (f .item ≡ g .item) ⊎ (f .item ≡ [])
+  pub owner : (f .owner ≡ g .owner) ⊎ (f .owner ≡ [])
+  pub usage : (f .usage ≡ g .usage) ⊎ (f .usage ≡ 0)
+
+left-zero : (v : ℕ) → left (0 ∷ []) ≤ left (v ∷ [])
+unfolding strip trim
+left-zero v = omega arith
+
+less-bytes : (f g : Library) → Less f g → length (libraryBytes f) ≤ length (libraryBytes g)
+unfolding libraryBytes
+less-bytes f g l =
+    let a : List ℕ = 0 ∷ f .usage ∷ [] in
+    let b : List ℕ = 0 ∷ g .usage ∷ [] in
+    let u : left a ≤ left b = left-cons 0 (f .usage ∷ []) (g .usage ∷ []) (last (f .usage) (g .usage) (l .usage)) in
+    let o : left (0 ∷ (f .owner ++ a)) ≤ left (0 ∷ (g .owner ++ b)) = left-cons 0 (f .owner ++ a) (g .owner ++ b) (left-less (f .owner) (g .owner) a b (l .owner) u) in
+    rw (l .media) (left-cons (g .media) (f .item ++ (0 ∷ (f .owner ++ a))) (g .item ++ (0 ∷ (g .owner ++ b)))
+    (left-less (f .item) (g .item) (0 ∷ (f .owner ++ a)) (0 ∷ (g .owner ++ b)) (l .item) o))
+  where
+    last : (u v : ℕ) → (u ≡ v) ⊎ (u ≡ 0) → left (u ∷ []) ≤ left (v ∷ [])
+    last u v (inl e) = rw e (le-refl _)
+    last u v (inr e) = rw e (left-zero v)
+
+less-block : (f : Library) (b : List ℕ) → length (libraryBytes f) ≤ length (payload b) → length (blockOne f) ≤ length b
+unfolding blockOne payload
+less-block f b h = go (libraryBytes f) h
+  where
+    go : (p : List ℕ) → length p ≤ length (strip (drop 4 b)) → length (if isEmpty p then [] else sealed 1 p) ≤ length b
+    go [] h = omega arith
+    go (x ∷ p) h = omega (arith, sealed-length 1 (x ∷ p), strip-length (drop 4 b), length-drop 4 b)
+
+-- ---- an owner that was read from the owner field fits it
+
+short-packed : (p u : List ℕ) → length p ≤ 2 → length (padWith blank 2 p ++ u) ≡ 2 + length u
+short-packed p u h = length-append (padWith blank 2 p) u ∙ ap (λ (k : ℕ). k + length u) (length-pad blank 2 p h)
+
+isil-basic : (w : ℕ) (p u : List ℕ) → isilOf p u ≡ true → length p ≤ 2 → 2 + length u ≤ w → basicOwner w (p ++ hyphen ∷ u) ≡ true
+unfolding basicOwner packed
+isil-basic w p u e l h =
+    let c = capitals-unhyphened p (isil-facts p u e .capitals) in
+    rw (isil-first (p ++ hyphen ∷ u) (isil-made p u e) .0, up-to-before hyphen p u c, past-before hyphen p u c)
+    (and-i (le-leb (length p) 2 l) (le-leb (length (padWith blank 2 p ++ u)) w (omega (arith, short-packed p u l))))
+
+alternative-basic : (w : ℕ) (o : List ℕ) → alternative o ≡ true → 2 + length o ≤ w → basicOwner w o ≡ true
+unfolding basicOwner packed
+alternative-basic w o e h = rw (alternative-facts o e .kind) (le-leb (length (0 ∷ 0 ∷ o)) w (omega arith))
+
+some-two : (t : List ℕ) → isEmpty (drop 2 t) ≡ false → 2 + length (drop 2 t) ≡ length t
+some-two [] e = never (cc)
+some-two (a ∷ []) e = never (cc)
+some-two (a ∷ b ∷ t) e = omega arith
+
+some-drop : (o : List ℕ) → isEmpty (drop 1 o) ≡ false → isEmpty o ≡ false
+some-drop [] e = e
+some-drop (x ∷ o) e = refl
+
+some-long : (u : List ℕ) → 1 ≤ length u → isEmpty u ≡ false
+some-long [] h = absurd (omega arith)
+some-long (x ∷ u) h = refl
+
+-- what a good owner field says, if not the marker, the basic forms hold again
+said-basic : (w : ℕ) (t : List ℕ) → goodOwner t ≡ true → marked (ownerSaid t) ≡ false → length t ≤ w → isEmpty (ownerSaid t) || basicOwner w (ownerSaid t) ≡ true
+unfolding goodOwner ownerSaid
+said-basic w t e m l = elim (or-inv (isEmpty t || marked (drop 2 t)) _ e) [
+  | inl h ↦ elim (or-inv (isEmpty t) (marked (drop 2 t)) h) [
+    | inl q ↦ rw (empty-of t q) refl
+    | inr q ↦ never (cc (q, rw (third t (same-eq (drop 2 t) marker q)) at m))
+  ]
+  | inr h ↦ go (leb (getD t 2 0) 3) h
+]
+  where
+    third : (t : List ℕ) → drop 2 t ≡ marker → leb (getD t 2 0) 3 ≡ true
+    third [] m = refl
+    third (a ∷ []) m = refl
+    third (a ∷ b ∷ []) m = refl
+    third (a ∷ b ∷ c ∷ t) m = let q : c ≡ 1 = cc in rw q
+
+    go : (x : Bool) → (if x then alternative (drop 2 t) else isilOf (prefixIn t) (drop 2 t)) ≡ true
+        → let o : List ℕ = if x then drop 2 t else prefixIn t ++ (hyphen ∷ drop 2 t) in isEmpty o || basicOwner w o ≡ true
+    go true q =
+        let s = some-drop (drop 2 t) (alternative-facts (drop 2 t) q .some) in
+        or-r (isEmpty (drop 2 t)) _ (alternative-basic w (drop 2 t) q (omega (arith, some-two t s)))
+    go false q =
+        let s = some-long (drop 2 t) (isil-facts (prefixIn t) (drop 2 t) q .unit-some) in
+        or-r (isEmpty (prefixIn t ++ (hyphen ∷ drop 2 t))) _ (isil-basic w (prefixIn t) (drop 2 t) q (prefix-length t) (omega (arith, some-two t s)))
+
+-- ---- the fields of block 1 that are laid down again
+
+beq-false : (x : Bool) → Bool·beq x false ≡ true → x ≡ false
+beq-false true e = sym e
+beq-false false e = refl
+
+module _ (t : List ℕ) (r : Readable t) where
+  abbrev c : Content
+  c = contentIn t
+
+  abbrev f : Library
+  f = libraryOn t
+
+  again : ℕ → Library
+  again n = library n c
+
+  less-media : (m : ℕ) → getD (if eqb m 0 then [] else m ∷ []) 0 0 ≡ m
+  less-media m = go (eqb m 0) refl
+    where
+      go : (x : Bool) → eqb m 0 ≡ x → getD (if x then [] else m ∷ []) 0 0 ≡ m
+      go true q = sym (eqb-true m 0 q)
+      go false q = refl
+
+  less-item : (i fi : List ℕ) → length i ≤ 16
+      → let one : List ℕ = if marked i then fi else i in let two : List ℕ = if marked i then [] else fi in
+      ((if long one then one else two) ≡ fi) ⊎ ((if long one then one else two) ≡ [])
+  less-item i fi l = go (marked i)
+    where
+      go : (m : Bool) → let one : List ℕ = if m then fi else i in let two : List ℕ = if m then [] else fi in
+          ((if long one then one else two) ≡ fi) ⊎ ((if long one then one else two) ≡ [])
+      go true = pick (long fi)
+        where
+          pick : (x : Bool) → ((if x then fi else []) ≡ fi) ⊎ ((if x then fi else []) ≡ [])
+          pick true = inl refl
+          pick false = inr refl
+      go false = inl (rw (lt-leb 17 (length i) (omega arith)))
+
+  less-usage : (m u : ℕ) → let x : ℕ = if eqb u 0 then m * 16 else u in ((if eqb (x % 16) 0 then 0 else x) ≡ u) ⊎ ((if eqb (x % 16) 0 then 0 else x) ≡ 0)
+  less-usage m u = go (eqb u 0) refl
+    where
+      pick : (x : Bool) → ((if x then 0 else u) ≡ u) ⊎ ((if x then 0 else u) ≡ 0)
+      pick true = inr refl
+      pick false = inl refl
+
+      go : (t : Bool) → eqb u 0 ≡ t → let x : ℕ = if t then m * 16 else u in ((if eqb (x % 16) 0 then 0 else x) ≡ u) ⊎ ((if eqb (x % 16) 0 then 0 else x) ≡ 0)
+      go true q = let z : m * 16 % 16 ≡ 0 = omega arith in inr (rw z)
+      go false q = pick (eqb (u % 16) 0)
+
+  either-owner : (o : List ℕ) → (if isEmpty (if alternate o then [] else o) then (if alternate o then o else []) else (if alternate o then [] else o)) ≡ o
+  either-owner o = go (alternate o)
+    where
+      nil : (o : List ℕ) → (if isEmpty o then [] else o) ≡ o
+      nil [] = refl
+      nil (x ∷ o) = refl
+
+      go : (x : Bool) → (if isEmpty (if x then [] else o) then (if x then o else []) else (if x then [] else o)) ≡ o
+      go true = refl
+      go false = nil o
+
+  owner-again : ownerOf c ≡ ownerOn t
+  unfolding contentIn place placeIn numbers
+  owner-again = either-owner (ownerOn t)
+
+  less-owner : (n : ℕ) → length (ownerIn t) ≤ ownerWidth n → (again n .owner ≡ f .owner) ⊎ (again n .owner ≡ [])
+  unfolding again library ownerOn
+  less-owner n l = rw owner-again (go (f .owner) refl)
+    where
+      keep : (o : List ℕ) (x : Bool) → ((if x then [] else o) ≡ o) ⊎ ((if x then [] else o) ≡ [])
+      keep o true = inr refl
+      keep o false = inl refl
+
+      unmarked : f .owner ≡ [] → marked (ownerSaid (ownerIn t)) ≡ false
+      unmarked e = beq-false (marked (ownerSaid (ownerIn t))) (rw e at (agree-owner t (r .agreed)))
+
+      go : (fo : List ℕ) → f .owner ≡ fo
+          → let o : List ℕ = if isEmpty fo then ownerSaid (ownerIn t) else fo in
+          ((if isEmpty o || basicOwner (ownerWidth n) o then [] else o) ≡ fo) ⊎ ((if isEmpty o || basicOwner (ownerWidth n) o then [] else o) ≡ [])
+      go [] e = inr (rw (said-basic (ownerWidth n) (ownerIn t) (fields-parts t (r .fields) .owner) (unmarked e) l))
+      go (x ∷ fo) e = keep (x ∷ fo) (basicOwner (ownerWidth n) (x ∷ fo))
+
+  again-less : (n : ℕ) → length (ownerIn t) ≤ ownerWidth n → Less (again n) f
+  unfolding again library contentIn place placeIn numbers
+  again-less n l = record {
+    media = less-media (f .media);
+    item = less-item (itemIn t) (f .item) (omega (arith, strip-length (part 3 16 t), part-length 3 16 t));
+    owner = less-owner n l;
+    usage = less-usage (mainUsage t) (f .usage);
+  }
+
+  -- block 1 is no longer than it was
+  pub block-shorter : (n : ℕ) → length (ownerIn t) ≤ ownerWidth n → length (blockOne (library n (contentIn t))) ≤ length (libraryBlock (blocksIn t))
+  unfolding again
+  block-shorter n l =
+      let b : List ℕ = libraryBlock (blocksIn t) in
+      let lt = library-tests b (fields-parts t (r .fields) .library) in
+      less-block (library n (contentIn t)) b (omega (arith, less-bytes (library n (contentIn t)) f (again-less n l), ap length (library-rebuilt b (lt .0))))
+
+-- ---- how many bytes the blocks have
+
+others-le : (bs : List (List ℕ)) → length (joined (otherBlocks bs)) ≤ length (joined bs)
+unfolding joined otherBlocks
+others-le [] = omega arith
+others-le (b ∷ bs) = go (isLibrary b) (others-le bs)
+  where
+    go : (x : Bool) → length (joined (otherBlocks bs)) ≤ length (joined bs) → length (joined (if x then otherBlocks bs else b ∷ otherBlocks bs)) ≤ length (b ++ joined bs)
+    go true ih = omega (arith, length-append b (joined bs))
+    go false ih = omega (arith, length-append b (joined bs), length-append b (joined (otherBlocks bs)))
+
+-- block 1 and the others are among the blocks
+split-total : (bs : List (List ℕ)) → length (libraryBlock bs) + length (joined (otherBlocks bs)) ≤ length (joined bs)
+unfolding joined libraryBlock otherBlocks
+split-total [] = omega arith
+split-total (b ∷ bs) = go (isLibrary b) (split-total bs)
+  where
+    go : (x : Bool) → length (libraryBlock bs) + length (joined (otherBlocks bs)) ≤ length (joined bs)
+        → length (if x then b else libraryBlock bs) + length (joined (if x then otherBlocks bs else b ∷ otherBlocks bs)) ≤ length (b ++ joined bs)
+    go true ih = omega (arith, length-append b (joined bs), others-le bs)
+    go false ih = omega (arith, length-append b (joined bs), length-append b (joined (otherBlocks bs)))
+
+pub walk-total : (g : ℕ) (seen : Bool) (s : List ℕ) (bs : List (List ℕ)) → walk g seen s ≡ got bs → length (joined bs) ≤ length s
+unfolding walk joined
+walk-total zero seen s bs e = rw (sym (got-inj e)) (omega arith)
+walk-total (suc g) seen s bs e = go (eqb (getD s 0 0) 0) (eqb (getD s 0 0) 1) e (walk-total g)
+  where
+    n : ℕ
+    n = getD s 0 0
+
+    b : List ℕ
+    b = take n s
+
+    go : (x z : Bool)
+        → (if x then got [] else if z then walk g seen (drop 1 s) else andThen (need 5 (wellFormed b && not (isLibrary b && seen))) λ _. andThen (walk g (isLibrary b || seen) (drop n s)) λ bs. got (b ∷ bs)) ≡ got bs
+        → ((seen : Bool) (s : List ℕ) (bs : List (List ℕ)) → walk g seen s ≡ got bs → length (joined bs) ≤ length s) → length (joined bs) ≤ length s
+    go true z e ih = rw (sym (got-inj e)) (omega arith)
+    go false true e ih = omega (arith, ih seen (drop 1 s) bs e, length-drop 1 s)
+    go false false e ih =
+        let h = then-inv (need 5 (wellFormed b && not (isLibrary b && seen))) _ bs e in
+        let d = then-inv (walk g (isLibrary b || seen) (drop n s)) _ bs (h .2) in
+        let i = ih (isLibrary b || seen) (drop n s) (d .0) (d .1) in
+        rw (sym (got-inj (d .2))) (omega (arith, length-append b (joined (d .0)), i, length-take n s, length-drop n s))
+
+-- ---- the layout of what was read
+
+module _ (p : ℕ) (t : List ℕ) (y : bytes t ≡ true) (g : goodSize p (length t) ≡ true) (r : Readable t) where
+  blocks-total : length (joined (blocksIn t)) ≤ length t - 34
+  unfolding chain
+  blocks-total = omega (arith, walk-total (length (drop 34 t)) false (drop 34 t) (blocksIn t) (r .blocks), length-drop 34 t)
+
+  own-in-width : length (ownerIn t) ≤ ownerWidth (length t)
+  own-in-width = omega (arith, strip-length (part 21 13 t), length-take 13 (drop 21 t), length-drop 21 t)
+
+  laid-blocks : length (blockOne (library (length t) (contentIn t)) ++ joined (contentIn t .carried)) ≤ length (joined (blocksIn t))
+  unfolding contentIn
+  laid-blocks =
+      let one : List ℕ = blockOne (library (length t) (contentIn t)) in
+      omega (arith, length-append one (joined (otherBlocks (blocksIn t))), block-shorter t r (length t) own-in-width, split-total (blocksIn t))
+
+  wide : (3 ≤ ownerWidth (length t)) × (21 + ownerWidth (length t) + (length t - 34) ≤ length t)
+  wide = elim (size-cases p (length t) g) [ inl e ↦ rw e (omega arith, omega arith) | inr e ↦ (omega arith, omega arith) ]
+
+  -- it is no longer than what was read: the basic block and the blocks
+  pub laid-shorter : length (laidOut (length t) (contentIn t)) ≤ 21 + ownerWidth (length t) + length (joined (blocksIn t))
+  unfolding laidOut
+  laid-shorter =
+      let n : ℕ = length t in
+      let c : Content = contentIn t in
+      omega (arith, length-append (basic n c) (blockOne (library n c) ++ joined (c .carried)), basic-length n c (wide .0), laid-blocks)
+
+  -- so it exists
+  pub read-fits : fits (length t) (contentIn t) ≡ true
+  unfolding fits
+  read-fits =
+      and-i (le-leb (length (blockOne (library (length t) (contentIn t)))) 255 (omega (arith, block-shorter t r (length t) own-in-width, library-short (blocksIn t) (blocks-handed t y r))))
+      (le-leb (length (laidOut (length t) (contentIn t))) (length t) (omega (arith, laid-shorter, blocks-total, wide .1)))
+
+-- ---- no offset passes 65,535
+
+fit-total : (at : ℕ) (es : List Entry) → at + length (bodies es) ≤ 65535 → offsetsFit at es ≡ true
+unfolding offsetsFit bodies
+fit-total at [] h = refl
+fit-total at (e ∷ es) h =
+    let l = length-append (e .bytes) (bodies es) in
+    and-i (le-leb at 65535 (omega arith)) (fit-total (at + length (e .bytes)) es (omega arith))
+
+pub bodies-append : (a b : List Entry) → length (bodies (a ++ b)) ≡ length (bodies a) + length (bodies b)
+unfolding bodies
+bodies-append [] b = omega arith
+bodies-append (e ∷ a) b = omega (arith, length-append (e .bytes) (bodies (a ++ b)), length-append (e .bytes) (bodies a), bodies-append a b)
+
+pub carried-total : (cs : List (List ℕ)) → (length (bodies (carriedEntries cs)) ≡ length (joined cs)) × (length (carriedEntries cs) ≡ length cs)
+unfolding bodies carriedEntries joined
+carried-total [] = (refl, refl)
+carried-total (c ∷ cs) =
+    let r = carried-total cs in
+    (omega (arith, length-append c (bodies (carriedEntries cs)), length-append c (joined cs), r .0), ap suc (r .1))
+
+slots-total : (ns : List ℕ) (ss : List (List ℕ)) → valuesAt ns ss ≡ true → (length (bodies (entriesAt ns ss)) ≤ 255 * length ns) × (length (entriesAt ns ss) ≤ length ns)
+unfolding bodies entriesAt valuesAt
+slots-total [] [] v = (omega arith, omega arith)
+slots-total [] (s ∷ ss) v = never (cc)
+slots-total (n ∷ ns) [] v = never (cc)
+slots-total (n ∷ ns) ([] ∷ ss) v = let r = slots-total ns ss (and-r (value n []) (valuesAt ns ss) v) in (omega arith, omega arith)
+slots-total (n ∷ ns) ((x ∷ s) ∷ ss) v =
+    let r = slots-total ns ss (and-r (value n (x ∷ s)) (valuesAt ns ss) v) in
+    let l = value-short n (x ∷ s) (and-l (value n (x ∷ s)) (valuesAt ns ss) v) in
+    (omega (arith, length-append (x ∷ s) (bodies (entriesAt ns ss)), r), omega arith)
+
+-- three bytes at least for each carried block
+pub carried-count : (cs : List (List ℕ)) → all (form 255) cs ≡ true → 3 * length cs ≤ length (joined cs)
+unfolding all joined
+carried-count [] h = omega arith
+carried-count (c ∷ cs) h =
+    let k = well-facts c (carried-facts c (form-carriable c (and-l (form 255 c) (all (form 255) cs) h)) .0) in
+    omega (arith, carried-count cs (and-r (form 255 c) (all (form 255) cs) h), length-append c (joined cs), k .long)
+
+module _ (p : ℕ) (t : List ℕ) (y : bytes t ≡ true) (g : goodSize p (length t) ≡ true) (r : Readable t) where
+  -- what a permitted tag gives fits a sheet, whatever the page size
+  pub read-fitting : fitting (entries (contentIn t)) ≡ true
+  unfolding contentIn entries numbers
+  read-fitting =
+      let c : Content = contentIn t in
+      let k = sound-parts c (read-sound t y r) in
+      let a : List Entry = entriesAt numbers (c .slots) in
+      let b : List Entry = carriedEntries (c .carried) in
+      let st = slots-total numbers (c .slots) (k .values) in
+      let ct = carried-total (c .carried) in
+      fit-total (bodyAt (length (a ++ b))) (a ++ b)
+      (total (length (a ++ b)) (length (bodies (a ++ b))) (length a) (length b) (length (bodies a)) (length (bodies b)) (length (c .carried)) (length (joined (c .carried)))
+      (length-append a b) (bodies-append a b) (st .1) (st .0) (ct .1) (ct .0) (carried-count (c .carried) (k .blocks))
+      (omega (arith, others-le (blocksIn t), blocks-total p t y g r, size-most p (length t) g)))
+    where
+      total : (n m na nb ma mb nc jc : ℕ) → n ≡ na + nb → m ≡ ma + mb → na ≤ 7 → ma ≤ 1785 → nb ≡ nc → mb ≡ jc → 3 * nc ≤ jc → jc ≤ 2048 → 2 + 4 * n + m ≤ 65535
+      total n m na nb ma mb nc jc a b c d e f g h = omega arith

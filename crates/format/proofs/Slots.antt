@@ -1,0 +1,149 @@
+-- A content's strings: a value for each number of the table.
+use mathlib.Core.Path.{_≡_, refl, sym, ap, ap₂, _∙_, subst}
+use Prim.Native.Nat.{ℕ, zero, suc, _+_, _≤_, _<_}
+use native.Mathlib.Nat.{le-of-suc-le-suc, not-suc-le-zero}
+use native.Mathlib.Omega.{arith}
+use mathlib.Core.Bool.{Bool, true, false, not, _&&_, _||_}
+use mathlib.Core.List.{List, [], _∷_, _++_}
+use lib.Dec.{eqb, leb, lit<}
+use lib.ListN.{length, getD, set}
+use lib.Seq.{set-set, set-getD, getD-set-same}
+use borrow.Author.Tests.{eqb-true, ltb-true}
+use Rattle.format.specs.Bytes.{if_then_else_, isEmpty, all}
+use Rattle.format.specs.Elements.{Content, numbers, placeIn, place, known, el, put, shape, form, value, clash, valuesAt, sound}
+use Rattle.format.specs.Fields.{long}
+use Rattle.format.specs.Chain.{carriable}
+use Rattle.format.proofs.Tests.{never, and-l, and-r, and-i, not-t, or-false, all-mono}
+
+pub values-length : (ns : List ℕ) (ss : List (List ℕ)) → valuesAt ns ss ≡ true → length ss ≡ length ns
+unfolding valuesAt
+values-length [] [] e = refl
+values-length [] (s ∷ ss) e = never (cc)
+values-length (n ∷ ns) [] e = never (cc)
+values-length (n ∷ ns) (s ∷ ss) e = ap suc (values-length ns ss (and-r (value n s) (valuesAt ns ss) e))
+
+pub values-at : (ns : List ℕ) (ss : List (List ℕ)) → valuesAt ns ss ≡ true → (i : ℕ) → i < length ns → value (getD ns i 0) (getD ss i []) ≡ true
+unfolding valuesAt
+values-at [] ss e i h = absurd (not-suc-le-zero h)
+values-at (n ∷ ns) [] e i h = never (cc)
+values-at (n ∷ ns) (s ∷ ss) e zero h = and-l (value n s) (valuesAt ns ss) e
+values-at (n ∷ ns) (s ∷ ss) e (suc i) h = values-at ns ss (and-r (value n s) (valuesAt ns ss) e) i (le-of-suc-le-suc h)
+
+-- another value in the place of a number
+pub values-set : (ns : List ℕ) (ss : List (List ℕ)) (i : ℕ) (s : List ℕ) → valuesAt ns ss ≡ true → value (getD ns i 0) s ≡ true → valuesAt ns (set ss i s) ≡ true
+unfolding valuesAt
+values-set [] [] i s e v = refl
+values-set [] (r ∷ ss) i s e v = never (cc)
+values-set (n ∷ ns) [] i s e v = never (cc)
+values-set (n ∷ ns) (r ∷ ss) zero s e v = and-i v (and-r (value n r) (valuesAt ns ss) e)
+values-set (n ∷ ns) (r ∷ ss) (suc i) s e v = and-i (and-l (value n r) (valuesAt ns ss) e) (values-set ns ss i s (and-r (value n r) (valuesAt ns ss) e) v)
+
+pub place-number : (ns : List ℕ) (n : ℕ) → placeIn ns n < length ns → getD ns (placeIn ns n) 0 ≡ n
+unfolding placeIn
+place-number [] n h = absurd (not-suc-le-zero h)
+place-number (m ∷ ns) n h = go (eqb m n) refl (λ k. place-number ns n k) h
+  where
+    go : (t : Bool) → eqb m n ≡ t → (placeIn ns n < length ns → getD ns (placeIn ns n) 0 ≡ n) → (if t then 0 else suc (placeIn ns n)) < suc (length ns) → getD (m ∷ ns) (if t then 0 else suc (placeIn ns n)) 0 ≡ n
+    go true e ih k = eqb-true m n e
+    go false e ih k = ih (le-of-suc-le-suc k)
+
+-- ---- a sound content
+
+abbrev pub listed : Content → Content
+listed c = record { slots = el c 1 ∷ el c 3 ∷ el c 4 ∷ el c 5 ∷ el c 19 ∷ el c 22 ∷ el c 23 ∷ []; carried = c .carried }
+
+pub record Facts (c : Content) : Type 0 where
+  pub eta : listed c ≡ c
+  pub v1 : value 1 (el c 1) ≡ true
+  pub v3 : value 3 (el c 3) ≡ true
+  pub v4 : value 4 (el c 4) ≡ true
+  pub v5 : value 5 (el c 5) ≡ true
+  pub v19 : value 19 (el c 19) ≡ true
+  pub v22 : value 22 (el c 22) ≡ true
+  pub v23 : value 23 (el c 23) ≡ true
+  pub owners : not (isEmpty (el c 3)) && not (isEmpty (el c 23)) ≡ false
+  pub items : not (isEmpty (el c 22)) && long (el c 1) ≡ false
+  pub rest : all carriable (c .carried) ≡ true
+
+seven : (l : List (List ℕ)) → length l ≡ 7 → getD l 0 [] ∷ getD l 1 [] ∷ getD l 2 [] ∷ getD l 3 [] ∷ getD l 4 [] ∷ getD l 5 [] ∷ getD l 6 [] ∷ [] ≡ l
+seven [] e = absurd (omega arith)
+seven (a ∷ []) e = absurd (omega arith)
+seven (a ∷ b ∷ []) e = absurd (omega arith)
+seven (a ∷ b ∷ c ∷ []) e = absurd (omega arith)
+seven (a ∷ b ∷ c ∷ d ∷ []) e = absurd (omega arith)
+seven (a ∷ b ∷ c ∷ d ∷ f ∷ []) e = absurd (omega arith)
+seven (a ∷ b ∷ c ∷ d ∷ f ∷ g ∷ []) e = absurd (omega arith)
+seven (a ∷ b ∷ c ∷ d ∷ f ∷ g ∷ h ∷ []) e = refl
+seven (a ∷ b ∷ c ∷ d ∷ f ∷ g ∷ h ∷ i ∷ l) e = absurd (omega arith)
+
+pub form-carriable : (b : List ℕ) → form 255 b ≡ true → carriable b ≡ true
+unfolding form shape
+form-carriable b e = and-l (carriable b) (leb (length b) 255) e
+
+-- the three parts of soundness
+pub record Sound (c : Content) : Type 0 where
+  pub values : valuesAt numbers (c .slots) ≡ true
+  pub blocks : all (form 255) (c .carried) ≡ true
+  pub clear : clash c ≡ false
+
+pub sound-parts : (c : Content) → sound c ≡ true → Sound c
+unfolding sound
+sound-parts c e =
+    let v : Bool = valuesAt numbers (c .slots) in
+    let b : Bool = all (form 255) (c .carried) in
+    let vb = and-l (v && b) (not (clash c)) e in
+    record { values = and-l v b vb; blocks = and-r v b vb; clear = not-t (clash c) (and-r (v && b) (not (clash c)) e) }
+
+pub parts-sound : (c : Content) → Sound c → sound c ≡ true
+unfolding sound
+parts-sound c k = and-i (and-i (k .values) (k .blocks)) (ap not (k .clear))
+
+pub sound-facts : (c : Content) → sound c ≡ true → Facts c
+unfolding numbers place placeIn clash
+sound-facts c e =
+    let k = sound-parts c e in
+    let cl = or-false _ _ (k .clear) in
+    let v = values-at numbers (c .slots) (k .values) in
+    record {
+      eta = ap (λ (l : List (List ℕ)). record { slots = l; carried = c .carried }) (seven (c .slots) (values-length numbers (c .slots) (k .values)));
+      v1 = v 0 (lit< tt);
+      v3 = v 1 (lit< tt);
+      v4 = v 2 (lit< tt);
+      v5 = v 3 (lit< tt);
+      v19 = v 4 (lit< tt);
+      v22 = v 5 (lit< tt);
+      v23 = v 6 (lit< tt);
+      owners = cl .0;
+      items = cl .1;
+      rest = all-mono (form 255) carriable form-carriable (c .carried) (k .blocks);
+    }
+
+-- ---- one element set
+
+-- the number that stands at a known number's place
+pub known-at : (n : ℕ) → known n ≡ true → (place n < length numbers) × (getD numbers (place n) 0 ≡ n)
+unfolding known place
+known-at n k = let h = ltb-true (placeIn numbers n) (length numbers) k in (h, place-number numbers n h)
+
+module _ (c : Content) (sc : sound c ≡ true) (n : ℕ) (kn : known n ≡ true) where
+  pub value-of : value n (el c n) ≡ true
+  value-of = let k = known-at n kn in rw (k .1) at (values-at numbers (c .slots) (sound-parts c sc .values) (place n) (k .0))
+
+  pub put-sound : (s : List ℕ) → value n s ≡ true → clash (put c n s) ≡ false → sound (put c n s) ≡ true
+  unfolding put
+  put-sound s v k =
+      let p = sound-parts c sc in
+      parts-sound (put c n s) (record { values = values-set numbers (c .slots) (place n) s (p .values) (rw (known-at n kn .1) v); blocks = p .blocks; clear = k })
+
+  pub got-back : (s : List ℕ) → el (put c n s) n ≡ s
+  unfolding put
+  got-back s = getD-set-same (c .slots) (place n) s [] (omega (arith, values-length numbers (c .slots) (sound-parts c sc .values), known-at n kn .0))
+
+pub put-back : (c : Content) (n : ℕ) (s : List ℕ) → put (put c n s) n (el c n) ≡ c
+unfolding put
+put-back c n s =
+    ap (λ (l : List (List ℕ)). record { slots = l; carried = c .carried }) (set-set (c .slots) (place n) s (el c n) ∙ set-getD (c .slots) (place n) [])
+
+pub put-same : (c : Content) (n : ℕ) → put c n (el c n) ≡ c
+unfolding put
+put-same c n = ap (λ (l : List (List ℕ)). record { slots = l; carried = c .carried }) (set-getD (c .slots) (place n) [])

@@ -1,0 +1,272 @@
+-- Whatever a readable tag holds is sound, and its layout exists on that tag: it is no longer than what was read.
+use mathlib.Core.Path.{_≡_, refl, sym, ap, ap₂, _∙_}
+use mathlib.Core.Logic.{_⊎_, inl, inr}
+use Prim.Native.Nat.{ℕ, zero, suc, _+_, _-_, _*_, _/_, _%_, _≤_, _<_, min}
+use native.Mathlib.Omega.{arith}
+use mathlib.Core.Bool.{Bool, true, false, not, _&&_, _||_, Bool·beq}
+use mathlib.Core.List.{List, [], _∷_, _++_}
+use lib.Dec.{eqb, leb}
+use lib.ListN.{length, take, drop, getD, length-take, length-drop, length-append}
+use lib.Seq.{length-take-le}
+use borrow.Author.Tests.{eqb-true, ne-eqb, leb-true, le-leb, lt-leb, eqb-false}
+use Rattle.format.specs.Answers.{Answer, got, refused, need, andThen}
+use Rattle.format.specs.Bytes.{if_then_else_, isEmpty, all, bytes, same, between, part, padWith, strip, upTo, past, joined, trim}
+use Rattle.format.specs.Pages.{goodSize}
+use Rattle.format.specs.Fields.{text, capital, unitByte, isilOf, isil, hyphen, blank, alternate, alternative, isOwner, marker, marked, goodItem, prefixIn, ownerSaid, goodOwner, long}
+use Rattle.format.specs.Chain.{idOf, wellFormed, isLibrary, carriable, walk, chain, libraryBlock, otherBlocks, Library, payload, lastField, libraryIn, goodLibrary}
+use Rattle.format.specs.Elements.{Content, numbers, placeIn, place, el, setBytes, required, shape, form, value, clash, valuesAt, sound}
+use Rattle.format.specs.Reading.{mainUsage, itemIn, ownerIn, walked, blocksIn, libraryOn, goodFields, agree, ownerOn, contentIn}
+use Rattle.format.proofs.Tests.{never, and-l, and-r, and-i, and-iff, and-no, not-t, or-f, or-inv, or-l, or-r, if-inv, all-drop, bytes-at, same-eq}
+use Rattle.format.proofs.Answers.{need-inv, then-inv, got-inj}
+use Rattle.format.proofs.Strings.{empty-of, part-length, strip-length, up-to-length, past-length, other, without, up-to-before, past-before}
+use Rattle.format.proofs.Fields.{capital-ge, Isil, isil-facts, isil-first, alternative-facts, owner-facts, text-nil}
+use Rattle.format.proofs.Blocks.{Whole, well-facts}
+use Rattle.format.proofs.Slots.{Sound, parts-sound}
+use Rattle.format.proofs.Values.{text-value, set-value}
+use Rattle.format.proofs.Readable.{Readable}
+
+-- ---- the owner field
+
+pub capitals-unhyphened : (p : List ℕ) → all capital p ≡ true → without hyphen p ≡ true
+unfolding all
+capitals-unhyphened [] e = refl
+capitals-unhyphened (x ∷ p) e =
+    let h : other hyphen x ≡ true = rw (ne-eqb x hyphen (omega (arith, capital-ge x (and-l (capital x) (all capital p) e)))) in
+    and-i h (capitals-unhyphened p (and-r (capital x) (all capital p) e))
+
+-- two sides and a hyphen between them make an ISIL
+pub isil-made : (p u : List ℕ) → isilOf p u ≡ true → isil (p ++ hyphen ∷ u) ≡ true
+unfolding isil
+isil-made p u e =
+    let w = capitals-unhyphened p (isil-facts p u e .capitals) in
+    rw (up-to-before hyphen p u w, past-before hyphen p u w) e
+
+-- nothing, the marker, or an owner
+abbrev Said : List ℕ → Type 0
+Said o = (o ≡ []) ⊎ ((o ≡ marker) ⊎ (isOwner o ≡ true))
+
+pub prefix-length : (t : List ℕ) → length (prefixIn t) ≤ 2
+unfolding prefixIn
+prefix-length t = go (eqb (getD t 1 0) blank)
+  where
+    go : (x : Bool) → length (if x then take 1 t else take 2 t) ≤ 2
+    go true = omega (arith, length-take 1 t)
+    go false = omega (arith, length-take 2 t)
+
+said-length : (t : List ℕ) → length t ≤ 13 → length (ownerSaid t) ≤ 16
+unfolding ownerSaid
+said-length t h = go (leb (getD t 2 0) 3)
+  where
+    go : (x : Bool) → length (if x then drop 2 t else prefixIn t ++ (hyphen ∷ drop 2 t)) ≤ 16
+    go true = omega (arith, length-drop 2 t)
+    go false = omega (arith, length-append (prefixIn t) (hyphen ∷ drop 2 t), length-drop 2 t, prefix-length t)
+
+alternative-is : (o : List ℕ) → alternative o ≡ true → isOwner o ≡ true
+unfolding isOwner
+alternative-is o e = rw (alternative-facts o e .kind) e
+
+isil-is : (o : List ℕ) → isil o ≡ true → isOwner o ≡ true
+unfolding isOwner
+isil-is o e = rw (isil-first o e .0) e
+
+owner-said : (t : List ℕ) → goodOwner t ≡ true → Said (ownerSaid t)
+unfolding goodOwner ownerSaid
+owner-said t e = elim (or-inv (isEmpty t || marked (drop 2 t)) _ e) [
+  | inl h ↦ elim (or-inv (isEmpty t) (marked (drop 2 t)) h) [
+    | inl q ↦ rw (empty-of t q) (inl refl)
+    | inr q ↦ let m = same-eq (drop 2 t) marker q in rw (third t m) (inr (inl m))
+  ]
+  | inr h ↦ go (leb (getD t 2 0) 3) h
+]
+  where
+    third : (t : List ℕ) → drop 2 t ≡ marker → leb (getD t 2 0) 3 ≡ true
+    third [] m = refl
+    third (a ∷ []) m = refl
+    third (a ∷ b ∷ []) m = refl
+    third (a ∷ b ∷ c ∷ t) m = let q : c ≡ 1 = cc in rw q
+
+    go : (x : Bool) → (if x then alternative (drop 2 t) else isilOf (prefixIn t) (drop 2 t)) ≡ true → Said (if x then drop 2 t else prefixIn t ++ (hyphen ∷ drop 2 t))
+    go true q = inr (inr (alternative-is (drop 2 t) q))
+    go false q = inr (inr (isil-is (prefixIn t ++ (hyphen ∷ drop 2 t)) (isil-made (prefixIn t) (drop 2 t) q)))
+
+-- ---- the blocks
+
+-- a block as the walk hands it out
+abbrev pub handed : List ℕ → Bool
+handed b = wellFormed b && leb (length b) 255
+
+pub walk-handed : (f : ℕ) (seen : Bool) (s : List ℕ) (bs : List (List ℕ)) → bytes s ≡ true → walk f seen s ≡ got bs → all handed bs ≡ true
+unfolding walk all
+walk-handed zero seen s bs y e = let k : [] ≡ bs = cc in ap (all handed) (sym k)
+walk-handed (suc f) seen s bs y e = go (eqb (getD s 0 0) 0) (eqb (getD s 0 0) 1) e (walk-handed f)
+  where
+    n : ℕ
+    n = getD s 0 0
+
+    b : List ℕ
+    b = take n s
+
+    go : (x z : Bool)
+        → (if x then got [] else if z then walk f seen (drop 1 s) else andThen (need 5 (wellFormed b && not (isLibrary b && seen))) λ _. andThen (walk f (isLibrary b || seen) (drop n s)) λ bs. got (b ∷ bs)) ≡ got bs
+        → ((seen : Bool) (s : List ℕ) (bs : List (List ℕ)) → bytes s ≡ true → walk f seen s ≡ got bs → all handed bs ≡ true) → all handed bs ≡ true
+    go true z e ih = let k : [] ≡ bs = cc in ap (all handed) (sym k)
+    go false true e ih = ih seen (drop 1 s) bs (all-drop (λ b. leb b 255) 1 s y) e
+    go false false e ih =
+        let h = then-inv (need 5 (wellFormed b && not (isLibrary b && seen))) _ bs e in
+        let d = then-inv (walk f (isLibrary b || seen) (drop n s)) _ bs (h .2) in
+        let wb : wellFormed b ≡ true = and-l (wellFormed b) (not (isLibrary b && seen)) (need-inv 5 _ (h .0) (h .1)) in
+        let lb : length b ≤ 255 = omega (arith, length-take n s, bytes-at 0 s y) in
+        ap (all handed) (sym (got-inj (d .2)))
+        ∙ and-i (and-i wb (le-leb (length b) 255 lb)) (ih (isLibrary b || seen) (drop n s) (d .0) (all-drop (λ b. leb b 255) n s y) (d .1))
+
+pub library-short : (bs : List (List ℕ)) → all handed bs ≡ true → length (libraryBlock bs) ≤ 255
+unfolding all libraryBlock
+library-short [] e = omega arith
+library-short (b ∷ bs) e = go (isLibrary b) (library-short bs (and-r (handed b) (all handed bs) e))
+  where
+    go : (t : Bool) → length (libraryBlock bs) ≤ 255 → length (if t then b else libraryBlock bs) ≤ 255
+    go true ih = leb-true (length b) 255 (and-r (wellFormed b) (leb (length b) 255) (and-l (handed b) (all handed bs) e))
+    go false ih = ih
+
+others-formed : (bs : List (List ℕ)) → all handed bs ≡ true → all (form 255) (otherBlocks bs) ≡ true
+unfolding all otherBlocks carriable form shape
+others-formed [] e = refl
+others-formed (b ∷ bs) e = go (isLibrary b) refl (others-formed bs (and-r (handed b) (all handed bs) e))
+  where
+    go : (t : Bool) → isLibrary b ≡ t → all (form 255) (otherBlocks bs) ≡ true → all (form 255) (if t then otherBlocks bs else b ∷ otherBlocks bs) ≡ true
+    go true q ih = ih
+    go false q ih =
+        let w = and-l (handed b) (all handed bs) e in
+        and-i (and-i (and-i (and-l (wellFormed b) (leb (length b) 255) w) (ap not q)) (and-r (wellFormed b) (leb (length b) 255) w)) ih
+
+-- ---- block 1's fields are no longer than the block
+
+pub library-lengths : (b : List ℕ) → (length (libraryIn b .item) ≤ length b) × (length (libraryIn b .owner) ≤ length b)
+unfolding libraryIn payload
+library-lengths b =
+    let p : List ℕ = strip (drop 4 b) in
+    let r : List ℕ = drop 1 p in (
+      omega (arith, up-to-length 0 r, length-drop 1 p, strip-length (drop 4 b), length-drop 4 b),
+      omega (arith, up-to-length 0 (past 0 r), past-length 0 r, length-drop 1 p, strip-length (drop 4 b), length-drop 4 b),
+    )
+
+pub library-tests : (b : List ℕ) → goodLibrary b ≡ true
+    → (length (lastField (payload b)) ≤ 1) × (text (libraryIn b .item) ≡ true) × (isEmpty (libraryIn b .owner) || isOwner (libraryIn b .owner) ≡ true)
+unfolding goodLibrary
+library-tests b e =
+    let x : Bool = leb (length (lastField (payload b))) 1 in
+    let y : Bool = text (libraryIn b .item) in
+    let xy = and-l (x && y) _ e in
+    (leb-true (length (lastField (payload b))) 1 (and-l x y xy), and-r x y xy, and-r (x && y) _ e)
+
+-- ---- the values
+
+usage-value : (u : ℕ) → value 5 (u ∷ []) ≡ true
+unfolding value form shape
+usage-value u = refl
+
+media-value : (m : ℕ) → value 19 (if eqb m 0 then [] else m ∷ []) ≡ true
+unfolding value form shape
+media-value m = go (eqb m 0) refl
+  where
+    go : (t : Bool) → eqb m 0 ≡ t → value 19 (if t then [] else m ∷ []) ≡ true
+    go true q = refl
+    go false q = and-i (ap not q) refl
+
+-- an owner, or none, is one of the two
+owner-values : (o : List ℕ) → (o ≡ []) ⊎ (isOwner o ≡ true) → length o ≤ 255
+    → (value 3 (if alternate o then [] else o) ≡ true) × (value 23 (if alternate o then o else []) ≡ true)
+    × (not (isEmpty (if alternate o then [] else o)) && not (isEmpty (if alternate o then o else [])) ≡ false)
+unfolding value form shape isOwner
+owner-values o (inl e) l = rw e (refl, refl, refl)
+owner-values o (inr e) l = elim (if-inv (alternate o) (alternative o) (isil o) e) [
+  | inl q ↦ rw (q .0) (refl, full o (q .1) l, refl)
+  | inr q ↦ let f = isil-first o (q .1) in rw (q .0) (rw (f .1) (and-i (q .1) (le-leb (length o) 255 l)), refl, rw (f .1))
+]
+  where
+    full : (o : List ℕ) → alternative o ≡ true → length o ≤ 255 → value 23 o ≡ true
+    full [] q l = refl
+    full (x ∷ o) q l = and-i q (le-leb (length (x ∷ o)) 255 l)
+
+-- the owner that the two places agree on
+owner-agreed : (o fo : List ℕ) → Said o → isEmpty fo || isOwner fo ≡ true → Bool·beq (marked o) (not (isEmpty fo)) ≡ true
+    → let own : List ℕ = if isEmpty fo then o else fo in (own ≡ []) ⊎ (isOwner own ≡ true)
+unfolding same
+owner-agreed o [] (inl e) h a = inl e
+owner-agreed o [] (inr (inl e)) h a = never (cc)
+owner-agreed o [] (inr (inr e)) h a = inr e
+owner-agreed o (x ∷ fo) s h a = inr h
+
+-- the item, and the alternative item
+item-values : (i fi : List ℕ) → goodItem i ≡ true → length i ≤ 16 → text fi ≡ true → length fi ≤ 255
+    → (value 1 (if marked i then fi else i) ≡ true) × (value 22 (if marked i then [] else fi) ≡ true)
+    × (not (isEmpty (if marked i then [] else fi)) && long (if marked i then fi else i) ≡ false)
+unfolding goodItem shape value
+item-values i fi h l t k = go (marked i) h
+  where
+    go : (m : Bool) → text i || m ≡ true
+        → (value 1 (if m then fi else i) ≡ true) × (value 22 (if m then [] else fi) ≡ true) × (not (isEmpty (if m then [] else fi)) && long (if m then fi else i) ≡ false)
+    go true h = (text-value 1 fi refl refl t k, refl, refl)
+    go false h =
+        let ti : text i ≡ true = elim (or-inv (text i) false h) [ inl x ↦ x | inr x ↦ never (cc) ] in
+        (text-value 1 i refl refl ti (omega arith), text-value 22 fi refl refl t k, and-no (not (isEmpty fi)) (long i) (lt-leb 17 (length i) (omega arith)))
+
+-- ---- together
+
+pub record Fields (t : List ℕ) : Type 0 where
+  pub ordinal : getD t 2 0 ≤ getD t 1 0
+  pub item : goodItem (itemIn t) ≡ true
+  pub owner : goodOwner (ownerIn t) ≡ true
+  pub library : goodLibrary (libraryBlock (blocksIn t)) ≡ true
+
+pub fields-parts : (t : List ℕ) → goodFields t ≡ true → Fields t
+unfolding goodFields
+fields-parts t e =
+    let x : Bool = leb (getD t 2 0) (getD t 1 0) in
+    let y : Bool = goodItem (itemIn t) in
+    let z : Bool = goodOwner (ownerIn t) in
+    let xyz = and-l (x && y && z) _ e in
+    let xy = and-l (x && y) z xyz in
+    record { ordinal = leb-true _ _ (and-l x y xy); item = and-r x y xy; owner = and-r (x && y) z xyz; library = and-r (x && y && z) _ e }
+
+pub agree-owner : (t : List ℕ) → agree t ≡ true → Bool·beq (marked (ownerSaid (ownerIn t))) (not (isEmpty (libraryOn t .owner))) ≡ true
+unfolding agree
+agree-owner t e =
+    let x : Bool = not (marked (itemIn t) && isEmpty (libraryOn t .item)) in
+    and-r x _ (and-l (x && Bool·beq (marked (ownerSaid (ownerIn t))) (not (isEmpty (libraryOn t .owner)))) _ e)
+
+module _ (t : List ℕ) (y : bytes t ≡ true) (r : Readable t) where
+  pub blocks-handed : all handed (blocksIn t) ≡ true
+  unfolding chain
+  blocks-handed = walk-handed (length (drop 34 t)) false (drop 34 t) (blocksIn t) (all-drop (λ b. leb b 255) 34 t y) (r .blocks)
+
+  -- the owner of a readable tag, or none
+  pub owner-on : (ownerOn t ≡ []) ⊎ (isOwner (ownerOn t) ≡ true)
+  unfolding ownerOn
+  owner-on =
+      let f = fields-parts t (r .fields) in
+      owner-agreed (ownerSaid (ownerIn t)) (libraryOn t .owner) (owner-said (ownerIn t) (f .owner)) (library-tests (libraryBlock (blocksIn t)) (f .library) .2) (agree-owner t (r .agreed))
+
+  owner-on-short : length (ownerOn t) ≤ 255
+  unfolding ownerOn
+  owner-on-short = go (isEmpty (libraryOn t .owner))
+    where
+      go : (x : Bool) → length (if x then ownerSaid (ownerIn t) else libraryOn t .owner) ≤ 255
+      go true = omega (arith, said-length (ownerIn t) (omega (arith, strip-length (part 21 13 t), part-length 21 13 t)))
+      go false = omega (arith, library-lengths (libraryBlock (blocksIn t)), library-short (blocksIn t) blocks-handed)
+
+  -- what is read is sound
+  pub read-sound : sound (contentIn t) ≡ true
+  unfolding contentIn valuesAt numbers clash place placeIn
+  read-sound =
+      let f = fields-parts t (r .fields) in
+      let l = library-tests (libraryBlock (blocksIn t)) (f .library) in
+      let n = library-lengths (libraryBlock (blocksIn t)) in
+      let s = library-short (blocksIn t) blocks-handed in
+      let iv = item-values (itemIn t) (libraryOn t .item) (f .item) (omega (arith, strip-length (part 3 16 t), part-length 3 16 t)) (l .1) (omega arith) in
+      let ov = owner-values (ownerOn t) owner-on owner-on-short in
+      parts-sound (contentIn t) (record {
+        values = and-i (iv .0) (and-i (ov .0) (and-i (set-value (getD t 1 0) (getD t 2 0) (f .ordinal) (bytes-at 1 t y)) (and-i (usage-value _) (and-i (media-value (libraryOn t .media)) (and-i (iv .1) (and-i (ov .1) refl))))));
+        blocks = others-formed (blocksIn t) blocks-handed;
+        clear = or-f (ov .2) (iv .2);
+      })

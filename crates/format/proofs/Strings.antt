@@ -1,0 +1,212 @@
+-- Laws of byte strings: filled, stripped, parted.
+use mathlib.Core.Path.{_≡_, refl, sym, ap, ap₂, _∙_}
+use Prim.Native.Nat.{ℕ, zero, suc, _+_, _-_, _*_, _/_, _%_, _≤_, _<_}
+use native.Mathlib.Omega.{arith}
+use mathlib.Core.Bool.{Bool, true, false, not, _&&_, _||_}
+use mathlib.Core.List.{List, [], _∷_, _++_, append-assoc, append-nil}
+use lib.ListN.{length, take, drop, getD, replicate, length-append, length-replicate, length-take, length-drop}
+use lib.Dec.{eqb, leb}
+use borrow.Author.Tests.{eqb-true, eq-eqb, eqb-false, ne-eqb}
+use Rattle.format.specs.Bytes.{if_then_else_, isEmpty, all, le16, word, part, padWith, pad, trim, strip, upTo, past, joined}
+use Rattle.format.proofs.Tests.{never, and-l, and-r, and-i, not-t}
+
+-- ---- sixteen bits in two bytes
+
+pub word-le16 : (n : ℕ) → n < 65536 → word (n % 256) (n / 256 % 256) ≡ n
+unfolding word
+word-le16 n h = omega arith
+
+pub le16-word : (low high : ℕ) → low ≤ 255 → high ≤ 255 → le16 (word low high) ≡ low ∷ high ∷ []
+unfolding le16 word
+le16-word low high a b = ap₂ (λ (x y : ℕ). x ∷ y ∷ []) (omega arith) (omega arith)
+
+pub le16-byte : (n : ℕ) → n ≤ 255 → le16 n ≡ n ∷ 0 ∷ []
+unfolding le16
+le16-byte n h = ap₂ (λ (x y : ℕ). x ∷ y ∷ []) (omega arith) (omega arith)
+
+pub le16-length : (n : ℕ) → length (le16 n) ≡ 2
+unfolding le16
+le16-length n = refl
+
+-- ---- lengths
+
+pub nil-of : {A : Type 0} (l : List A) → length l ≡ 0 → l ≡ []
+nil-of [] e = refl
+nil-of (x ∷ l) e = absurd (omega arith)
+
+pub empty-of : {A : Type 0} (l : List A) → isEmpty l ≡ true → l ≡ []
+empty-of [] e = refl
+empty-of (x ∷ l) e = never (cc)
+
+pub part-length : (i n : ℕ) (s : List ℕ) → length (part i n s) ≤ n
+part-length i n s = omega (arith, length-take n (drop i s))
+
+trim-length : (x : ℕ) (r : List ℕ) → length (trim x r) ≤ suc (length r)
+unfolding trim
+trim-length zero [] = omega arith
+trim-length zero (y ∷ r) = omega arith
+trim-length (suc x) r = omega arith
+
+pub strip-length : (s : List ℕ) → length (strip s) ≤ length s
+unfolding strip
+strip-length [] = omega arith
+strip-length (x ∷ s) = omega (arith, trim-length x (strip s), strip-length s)
+
+pub up-to-length : (b : ℕ) (s : List ℕ) → length (upTo b s) ≤ length s
+unfolding upTo
+up-to-length b [] = omega arith
+up-to-length b (x ∷ s) = go (eqb x b) (up-to-length b s)
+  where
+    go : (t : Bool) → length (upTo b s) ≤ length s → length (if t then [] else x ∷ upTo b s) ≤ suc (length s)
+    go true h = omega arith
+    go false h = omega arith
+
+pub past-length : (b : ℕ) (s : List ℕ) → length (past b s) ≤ length s
+unfolding past
+past-length b [] = omega arith
+past-length b (x ∷ s) = go (eqb x b) (past-length b s)
+  where
+    go : (t : Bool) → length (past b s) ≤ length s → length (if t then s else past b s) ≤ suc (length s)
+    go true h = omega arith
+    go false h = omega arith
+
+-- ---- filled and stripped
+
+pub strip-zeros : (n : ℕ) → strip (replicate n 0) ≡ []
+unfolding strip trim
+strip-zeros zero = refl
+strip-zeros (suc n) = rw (strip-zeros n)
+
+-- what strips to nothing does not matter behind a string
+pub strip-append : (s z : List ℕ) → strip z ≡ [] → strip (s ++ z) ≡ strip s
+unfolding strip
+strip-append [] z e = e
+strip-append (x ∷ s) z e = ap (trim x) (strip-append s z e)
+
+pub strip-pad : (n : ℕ) (s : List ℕ) → strip (pad n s) ≡ strip s
+unfolding padWith
+strip-pad n s = strip-append s (replicate (n - length s) 0) (strip-zeros (n - length s))
+
+pub length-pad : (b n : ℕ) (s : List ℕ) → length s ≤ n → length (padWith b n s) ≡ n
+unfolding padWith
+length-pad b n s h = simp (length-append, length-replicate) (omega arith)
+
+trim-head : (x : ℕ) (r : List ℕ) → getD (trim x r) 0 0 ≡ x
+unfolding trim
+trim-head zero [] = refl
+trim-head zero (y ∷ ys) = refl
+trim-head (suc x) r = refl
+
+pub head-strip : (x : ℕ) (s : List ℕ) → getD (strip (x ∷ s)) 0 0 ≡ x
+unfolding strip
+head-strip x s = trim-head x (strip s)
+
+trim-drop : (x : ℕ) (r : List ℕ) → drop 1 (trim x r) ≡ r
+unfolding trim
+trim-drop zero [] = refl
+trim-drop zero (y ∷ ys) = refl
+trim-drop (suc x) r = refl
+
+pub drop-strip : (x : ℕ) (s : List ℕ) → drop 1 (strip (x ∷ s)) ≡ strip s
+unfolding strip
+drop-strip x s = trim-drop x (strip s)
+
+-- stripping twice strips once
+trim-trim : (x : ℕ) (r : List ℕ) → strip r ≡ r → strip (trim x r) ≡ trim x r
+unfolding trim strip
+trim-trim zero [] e = refl
+trim-trim zero (y ∷ ys) e = ap (trim zero) e
+trim-trim (suc x) r e = ap (λ (s : List ℕ). suc x ∷ s) e
+
+pub strip-strip : (s : List ℕ) → strip (strip s) ≡ strip s
+unfolding strip
+strip-strip [] = refl
+strip-strip (x ∷ s) = trim-trim x (strip s) (strip-strip s)
+
+-- a string whose end is no 00 keeps it behind more bytes
+pub strip-cons : (x y : ℕ) (s : List ℕ) → strip (y ∷ s) ≡ y ∷ s → strip (x ∷ y ∷ s) ≡ x ∷ y ∷ s
+unfolding strip trim
+strip-cons zero y s e = ap (trim zero) e
+strip-cons (suc x) y s e = ap (λ (r : List ℕ). suc x ∷ r) e
+
+-- ---- parted at a byte
+
+-- (`eqb` computes at literals only)
+suc-other : (x : ℕ) → eqb (suc x) 0 ≡ false
+suc-other x = ne-eqb (suc x) 0 (omega arith)
+
+-- no byte is b
+abbrev pub other : ℕ → ℕ → Bool
+other b x = not (eqb x b)
+
+abbrev pub without : ℕ → List ℕ → Bool
+without b s = all (other b) s
+
+-- no byte is 00
+abbrev pub solid : List ℕ → Bool
+solid s = without 0 s
+
+pub up-to-whole : (b : ℕ) (s : List ℕ) → without b s ≡ true → upTo b s ≡ s
+unfolding all upTo
+up-to-whole b [] e = refl
+up-to-whole b (x ∷ s) e = rw (not-t (eqb x b) (and-l (other b x) (without b s) e)) (ap (λ (t : List ℕ). x ∷ t) (up-to-whole b s (and-r (other b x) (without b s) e)))
+
+pub up-to-before : (b : ℕ) (s r : List ℕ) → without b s ≡ true → upTo b (s ++ b ∷ r) ≡ s
+unfolding all upTo
+up-to-before b [] r e = rw (eq-eqb b b refl)
+up-to-before b (x ∷ s) r e = rw (not-t (eqb x b) (and-l (other b x) (without b s) e)) (ap (λ (t : List ℕ). x ∷ t) (up-to-before b s r (and-r (other b x) (without b s) e)))
+
+pub past-before : (b : ℕ) (s r : List ℕ) → without b s ≡ true → past b (s ++ b ∷ r) ≡ r
+unfolding all past
+past-before b [] r e = rw (eq-eqb b b refl)
+past-before b (x ∷ s) r e = rw (not-t (eqb x b) (and-l (other b x) (without b s) e)) (past-before b s r (and-r (other b x) (without b s) e))
+
+pub up-to-without : (b : ℕ) (s : List ℕ) → without b (upTo b s) ≡ true
+unfolding all upTo
+up-to-without b [] = refl
+up-to-without b (x ∷ s) = go (eqb x b) refl (up-to-without b s)
+  where
+    go : (t : Bool) → eqb x b ≡ t → without b (upTo b s) ≡ true → without b (if t then [] else x ∷ upTo b s) ≡ true
+    go true q h = refl
+    go false q h = and-i (ap not q) h
+
+-- where something follows the b, both sides and the b are the string
+pub parted : (b : ℕ) (s : List ℕ) → isEmpty (past b s) ≡ false → s ≡ upTo b s ++ b ∷ past b s
+unfolding upTo past
+parted b [] e = never (cc)
+parted b (x ∷ s) e = go (eqb x b) refl (parted b s) e
+  where
+    go : (t : Bool) → eqb x b ≡ t → (isEmpty (past b s) ≡ false → s ≡ upTo b s ++ b ∷ past b s) → isEmpty (if t then s else past b s) ≡ false
+        → x ∷ s ≡ (if t then [] else x ∷ upTo b s) ++ b ∷ (if t then s else past b s)
+    go true q ih h = ap (λ (y : ℕ). y ∷ s) (eqb-true x b q)
+    go false q ih h = ap (λ (r : List ℕ). x ∷ r) (ih h)
+
+pub solid-strip : (s : List ℕ) → solid s ≡ true → strip s ≡ s
+unfolding all strip trim
+solid-strip [] e = refl
+solid-strip (zero ∷ s) e = never (cc)
+solid-strip (suc x ∷ s) e = ap (λ (r : List ℕ). suc x ∷ r) (solid-strip s (and-r (other 0 (suc x)) (solid s) e))
+
+trim-up-to : (x : ℕ) (r : List ℕ) → upTo 0 (trim x r) ≡ upTo 0 (x ∷ r)
+unfolding trim upTo
+trim-up-to zero [] = refl
+trim-up-to zero (y ∷ ys) = refl
+trim-up-to (suc x) r = refl
+
+pub up-to-strip : (s : List ℕ) → upTo 0 (strip s) ≡ upTo 0 s
+unfolding strip upTo
+up-to-strip [] = refl
+up-to-strip (zero ∷ s) = trim-up-to zero (strip s)
+up-to-strip (suc x ∷ s) = trim-up-to (suc x) (strip s) ∙ rw (suc-other x) (ap (λ (r : List ℕ). suc x ∷ r) (up-to-strip s))
+
+trim-past : (x : ℕ) (r : List ℕ) → past 0 (trim x r) ≡ past 0 (x ∷ r)
+unfolding trim past
+trim-past zero [] = refl
+trim-past zero (y ∷ ys) = refl
+trim-past (suc x) r = refl
+
+pub past-strip : (s : List ℕ) → past 0 (strip s) ≡ strip (past 0 s)
+unfolding strip past
+past-strip [] = refl
+past-strip (zero ∷ s) = trim-past zero (strip s)
+past-strip (suc x ∷ s) = trim-past (suc x) (strip s) ∙ rw (suc-other x) (past-strip s)

@@ -1,0 +1,65 @@
+-- Exclusive or: it may be regrouped, and what goes in twice goes out.
+use mathlib.Core.Path.{_≡_, refl, sym, ap, ap₂, _∙_}
+use Prim.Native.Nat.{ℕ, zero, suc, _+_, _*_, _/_, _%_, _≤_, _<_}
+use native.Mathlib.Nat.{mod-lt, zero-lt-suc}
+use native.Mathlib.Omega.{arith}
+use mathlib.Core.List.{List, [], _∷_, _++_}
+use lib.Arith.{bin-ind}
+use lib.Bits.{bitXor, xor-step, xor-comm, xor-self, xor-zero-r, differ}
+use Rattle.format.specs.Bytes.{xorAll}
+
+differ-assoc : (x y z : ℕ) → x < 2 → y < 2 → z < 2 → differ (differ x y) z ≡ differ x (differ y z)
+differ-assoc zero y z hx hy hz = refl
+differ-assoc (suc zero) zero z hx hy hz = refl
+differ-assoc (suc zero) (suc zero) zero hx hy hz = refl
+differ-assoc (suc zero) (suc zero) (suc zero) hx hy hz = refl
+differ-assoc (suc zero) (suc zero) (suc (suc z)) hx hy hz = absurd (omega arith)
+differ-assoc (suc zero) (suc (suc y)) z hx hy hz = absurd (omega arith)
+differ-assoc (suc (suc x)) y z hx hy hz = absurd (omega arith)
+
+differ-lt : (x y : ℕ) → x < 2 → y < 2 → differ x y < 2
+differ-lt zero y hx hy = hy
+differ-lt (suc zero) zero hx hy = hx
+differ-lt (suc zero) (suc zero) hx hy = omega arith
+differ-lt (suc zero) (suc (suc y)) hx hy = absurd (omega arith)
+differ-lt (suc (suc x)) y hx hy = absurd (omega arith)
+
+xor-half : (a b : ℕ) → (bitXor a b / 2 ≡ bitXor (a / 2) (b / 2)) × (bitXor a b % 2 ≡ differ (a % 2) (b % 2))
+xor-half a b =
+    let d = differ-lt (a % 2) (b % 2) (mod-lt a (zero-lt-suc 1)) (mod-lt b (zero-lt-suc 1)) in
+    (omega (arith, xor-step a b, d), omega (arith, xor-step a b, d))
+
+pub xor-assoc : (a b c : ℕ) → bitXor (bitXor a b) c ≡ bitXor a (bitXor b c)
+xor-assoc =
+    bin-ind (λ (a : ℕ). (b c : ℕ) → bitXor (bitXor a b) c ≡ bitXor a (bitXor b c)) (λ b c. refl)
+    (λ a ih b c.
+    xor-step (bitXor a b) c
+    ∙ ap₂ (λ (x y : ℕ). x * 2 + y)
+    (ap (λ (q : ℕ). bitXor q (c / 2)) (xor-half a b .0) ∙ ih (b / 2) (c / 2) ∙ ap (bitXor (a / 2)) (sym (xor-half b c .0)))
+    (ap (λ (q : ℕ). differ q (c % 2)) (xor-half a b .1)
+    ∙ differ-assoc (a % 2) (b % 2) (c % 2) (mod-lt a (zero-lt-suc 1)) (mod-lt b (zero-lt-suc 1)) (mod-lt c (zero-lt-suc 1))
+    ∙ ap (differ (a % 2)) (sym (xor-half b c .1)))
+    ∙ sym (xor-step a (bitXor b c)))
+
+-- (a b) (c d) as (a c) (b d)
+pub xor-swap : (a b c d : ℕ) → bitXor (bitXor a b) (bitXor c d) ≡ bitXor (bitXor a c) (bitXor b d)
+xor-swap a b c d =
+    xor-assoc a b (bitXor c d)
+    ∙ ap (bitXor a) (sym (xor-assoc b c d) ∙ ap (λ (x : ℕ). bitXor x d) (xor-comm b c) ∙ xor-assoc c b d)
+    ∙ sym (xor-assoc a c (bitXor b d))
+
+-- ---- of a string
+
+pub xor-append : (a b : List ℕ) → xorAll (a ++ b) ≡ bitXor (xorAll a) (xorAll b)
+unfolding xorAll
+xor-append [] b = refl
+xor-append (x ∷ a) b = ap (bitXor x) (xor-append a b) ∙ sym (xor-assoc x (xorAll a) (xorAll b))
+
+-- a string with its own XOR put in somewhere comes to 0
+pub xor-closed : (a b : List ℕ) → xorAll (a ++ (xorAll (a ++ b) ∷ b)) ≡ 0
+unfolding xorAll
+xor-closed a b =
+    xor-append a (xorAll (a ++ b) ∷ b)
+    ∙ ap (bitXor (xorAll a)) (ap (λ (q : ℕ). bitXor q (xorAll b)) (xor-append a b)
+    ∙ xor-assoc (xorAll a) (xorAll b) (xorAll b) ∙ ap (bitXor (xorAll a)) (xor-self (xorAll b)) ∙ xor-zero-r (xorAll a))
+    ∙ xor-self (xorAll a)

@@ -1,0 +1,104 @@
+-- The chain of blocks and block 1's fields: document 01, "The chain of blocks".
+use Prim.Native.Nat.{ℕ, zero, suc, _+_}
+use mathlib.Core.Bool.{Bool, true, false, not, _&&_, _||_}
+use mathlib.Core.List.{List, [], _∷_, _++_}
+use lib.ListN.{length, getD, take, drop}
+use lib.Dec.{leb, eqb}
+use Rattle.format.specs.Answers.{Answer, got, refused, need, andThen}
+use Rattle.format.specs.Bytes.{if_then_else_, isEmpty, le16, word, xorAll, strip, upTo, past}
+use Rattle.format.specs.Fields.{text, isOwner}
+
+-- ---- one block
+
+-- a block's first byte is its length, then comes a two-byte ID, low byte first
+abbrev pub idOf : List ℕ → ℕ
+idOf b = word (getD b 1 0) (getD b 2 0)
+
+-- ID 0 is damage. IDs 1 to 100 are structured: at least 4 bytes, the XOR of the whole block 00. IDs above 100 have at least 3 bytes.
+-- A block as long as its first byte says does not run past the tag.
+unfoldable pub wellFormed : List ℕ → Bool
+wellFormed b =
+    leb 3 (length b) && eqb (getD b 0 0) (length b) && not (eqb (idOf b) 0)
+    && (if leb (idOf b) 100 then leb 4 (length b) && eqb (xorAll b) 0 else true)
+
+-- block 1 is the library extension
+abbrev pub isLibrary : List ℕ → Bool
+isLibrary b = eqb (idOf b) 1
+
+-- what element 255 carries: whole and well formed, no filler, ID not 1
+unfoldable pub carriable : List ℕ → Bool
+carriable b = wellFormed b && not (isLibrary b)
+
+-- ---- the chain
+
+-- The blocks up to the end or a byte 00, fillers of one byte left out; 5 at the first damage, a second block 1 among it.
+-- `seen`: a block 1 came before. Each turn takes a byte at least, so as many turns as bytes are enough.
+unfoldable pub walk : ℕ → Bool → List ℕ → Answer (List (List ℕ))
+walk zero seen s = got []
+walk (suc turns) seen s =
+    let n : ℕ = getD s 0 0 in
+    let b : List ℕ = take n s in
+    if eqb n 0 then got [] else
+    if eqb n 1 then walk turns seen (drop 1 s) else
+    andThen (need 5 (wellFormed b && not (isLibrary b && seen))) λ _.
+    andThen (walk turns (isLibrary b || seen) (drop n s)) λ bs.
+    got (b ∷ bs)
+
+unfoldable pub chain : List ℕ → Answer (List (List ℕ))
+chain s = walk (length s) false s
+
+-- block 1 among the blocks, nothing if there is none; and the others
+unfoldable pub libraryBlock : List (List ℕ) → List ℕ
+libraryBlock [] = []
+libraryBlock (b ∷ bs) = if isLibrary b then b else libraryBlock bs
+
+unfoldable pub otherBlocks : List (List ℕ) → List (List ℕ)
+otherBlocks [] = []
+otherBlocks (b ∷ bs) = if isLibrary b then otherBlocks bs else b ∷ otherBlocks bs
+
+-- ---- block 1, after its four leading bytes: media format, item field, 00, owner field, 00, usage byte
+
+pub record Library : Type 0 where
+  pub media : ℕ
+  pub item : List ℕ
+  pub owner : List ℕ
+  pub usage : ℕ
+
+-- what follows the leading bytes, trailing 00 stripped
+unfoldable pub payload : List ℕ → List ℕ
+payload b = strip (drop 4 b)
+
+-- what follows the second separator
+unfoldable pub lastField : List ℕ → List ℕ
+lastField p = past 0 (past 0 (drop 1 p))
+
+-- missing fields are empty, a missing media or usage byte is 00
+unfoldable pub libraryIn : List ℕ → Library
+libraryIn b =
+    let p : List ℕ = payload b in
+    record {
+      media = getD p 0 0;
+      item = upTo 0 (drop 1 p);
+      owner = upTo 0 (past 0 (drop 1 p));
+      usage = getD (lastField p) 0 0;
+    }
+
+-- more than one byte after the second separator is a bad field; so is an item that is no text, an owner that is none
+unfoldable pub goodLibrary : List ℕ → Bool
+goodLibrary b =
+    let f : Library = libraryIn b in
+    leb (length (lastField (payload b))) 1 && text (f .item) && (isEmpty (f .owner) || isOwner (f .owner))
+
+-- trailing 00 bytes are dropped by the writer
+unfoldable pub libraryBytes : Library → List ℕ
+libraryBytes f = strip (f .media ∷ (f .item ++ (0 ∷ (f .owner ++ (0 ∷ f .usage ∷ [])))))
+
+-- a structured block with its length, ID and checksum
+unfoldable pub sealed : ℕ → List ℕ → List ℕ
+sealed id p =
+    let head : List ℕ = (length p + 4) ∷ le16 id in
+    head ++ (xorAll (head ++ p) ∷ p)
+
+-- block 1 if it has anything
+unfoldable pub blockOne : Library → List ℕ
+blockOne f = if isEmpty (libraryBytes f) then [] else sealed 1 (libraryBytes f)

@@ -1,0 +1,93 @@
+-- The elements: document 01, "Elements".
+use Prim.Native.Nat.{ℕ, zero, suc, _+_}
+use mathlib.Core.Bool.{Bool, true, false, not, _&&_, _||_}
+use mathlib.Core.List.{List, [], _∷_, _++_}
+use lib.ListN.{length, getD, set}
+use lib.Dec.{leb, ltb, eqb}
+use Rattle.format.specs.Bytes.{if_then_else_, isEmpty, all, word, le16}
+use Rattle.format.specs.Fields.{text, isil, alternative, long}
+use Rattle.format.specs.Chain.{carriable}
+
+-- the numbers of the table, rising; 255, the carried blocks, is apart
+unfoldable pub numbers : List ℕ
+numbers = 1 ∷ 3 ∷ 4 ∷ 5 ∷ 19 ∷ 22 ∷ 23 ∷ []
+
+-- 4 and 5 are always present
+abbrev pub required : ℕ → Bool
+required n = eqb n 4 || eqb n 5
+
+-- element 4: parts, then ordinal, each two bytes low first
+abbrev pub partsOf : List ℕ → ℕ
+partsOf s = word (getD s 0 0) (getD s 1 0)
+
+abbrev pub ordinalOf : List ℕ → ℕ
+ordinalOf s = word (getD s 2 0) (getD s 3 0)
+
+abbrev pub setBytes : ℕ → ℕ → List ℕ
+setBytes parts ordinal = le16 parts ++ le16 ordinal
+
+-- both at most 255, ordinal at most parts
+unfoldable pub setInfo : List ℕ → Bool
+setInfo s = eqb (length s) 4 && leb (partsOf s) 255 && leb (ordinalOf s) 255 && leb (ordinalOf s) (partsOf s)
+
+-- the form of each element in a sheet; an unknown number has none
+unfoldable pub shape : ℕ → List ℕ → Bool
+shape n s =
+    if eqb n 1 then not (isEmpty s) && text s else
+    if eqb n 3 then isil s else
+    if eqb n 4 then setInfo s else
+    if eqb n 5 then eqb (length s) 1 else
+    if eqb n 19 then eqb (length s) 1 && not (eqb (getD s 0 0) 0) else
+    if eqb n 22 then not (isEmpty s) && text s else
+    if eqb n 23 then alternative s else
+    if eqb n 255 then carriable s else
+    false
+
+-- a sheet gives an element's length one byte
+unfoldable pub form : ℕ → List ℕ → Bool
+form n s = shape n s && leb (length s) 255
+
+-- what may stand for a number of the table: its form or, unless it is always present, nothing
+unfoldable pub value : ℕ → List ℕ → Bool
+value n s = if isEmpty s then not (required n) else form n s
+
+-- ---- all elements together: a string for each number of the table, empty where there is none; the carried blocks in tag order
+
+pub record Content : Type 0 where
+  pub slots : List (List ℕ)
+  pub carried : List (List ℕ)
+
+-- where a number stands in a list of numbers: the list's length if nowhere
+unfoldable pub placeIn : List ℕ → ℕ → ℕ
+placeIn [] n = 0
+placeIn (m ∷ ms) n = if eqb m n then 0 else suc (placeIn ms n)
+
+unfoldable pub place : ℕ → ℕ
+place n = placeIn numbers n
+
+-- a number of the table other than 255
+unfoldable pub known : ℕ → Bool
+known n = ltb (place n) (length numbers)
+
+-- the element with a number
+abbrev pub el : Content → ℕ → List ℕ
+el c n = getD (c .slots) (place n) []
+
+-- the elements with another string for a number: no bytes means remove
+unfoldable pub put : Content → ℕ → List ℕ → Content
+put c n s = record { slots = set (c .slots) (place n) s; carried = c .carried }
+
+-- 3 and 23 clash; 22 clashes with a 1 longer than 16 bytes
+unfoldable pub clash : Content → Bool
+clash c = (not (isEmpty (el c 3)) && not (isEmpty (el c 23))) || (not (isEmpty (el c 22)) && long (el c 1))
+
+-- a string for each number, each with its value
+unfoldable pub valuesAt : List ℕ → List (List ℕ) → Bool
+valuesAt [] [] = true
+valuesAt [] (s ∷ ss) = false
+valuesAt (n ∷ ns) [] = false
+valuesAt (n ∷ ns) (s ∷ ss) = value n s && valuesAt ns ss
+
+-- the elements that a sheet may hold
+unfoldable pub sound : Content → Bool
+sound c = valuesAt numbers (c .slots) && all (form 255) (c .carried) && not (clash c)

@@ -1,0 +1,13 @@
+pub mod Answers
+pub mod Bytes
+pub mod Pages
+pub mod Crc
+pub mod Fields
+pub mod Chain
+pub mod Elements
+pub mod Sheet
+pub mod Layout
+pub mod Reading
+pub mod Calls
+pub mod Numbers
+pub mod History

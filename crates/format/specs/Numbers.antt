@@ -1,0 +1,53 @@
+-- The paper's number and values for each case of the answers, and what each call's contract says of an answer and the buffers.
+use mathlib.Core.Path.{_≡_}
+use Prim.Native.Nat.{ℕ}
+use mathlib.Core.List.{List, [], _∷_}
+use Rattle.format.specs.Answers.{Answer, Refusal, plain, got, refused}
+use Rattle.format.specs.Pages.{pageSize}
+use Rattle.format.specs.Calls.{reading, writing, Edited, editing}
+use Rattle.format.specs.declared.ReadAnswer.{ReadAnswer}
+use Rattle.format.specs.declared.ReadAnswer.the-variants as read
+use Rattle.format.specs.declared.WriteAnswer.{WriteAnswer}
+use Rattle.format.specs.declared.WriteAnswer.the-variants as write
+use Rattle.format.specs.declared.EditAnswer.{EditAnswer}
+use Rattle.format.specs.declared.EditAnswer.the-variants as edit
+
+abbrev pub readGiven : ReadAnswer → Answer ℕ
+readGiven (read.Done n) = got n
+readGiven (read.Refused k) = refused (plain k)
+
+abbrev pub writeGiven : WriteAnswer → Answer ℕ
+writeGiven (write.Done n) = got n
+writeGiven (write.Refused k) = refused (plain k)
+
+abbrev pub editGiven : EditAnswer → Answer Edited
+editGiven (edit.Done p o) = got (record { pages = p; old = o })
+editGiven (edit.Refused k) = refused (plain k)
+
+-- the numbers that each call can give, in its order
+unfoldable pub readNumbers : List ℕ
+readNumbers = 1 ∷ 3 ∷ 4 ∷ 5 ∷ 6 ∷ 7 ∷ 14 ∷ 2 ∷ []
+
+unfoldable pub writeNumbers : List ℕ
+writeNumbers = 1 ∷ 8 ∷ 9 ∷ 10 ∷ 11 ∷ 12 ∷ []
+
+unfoldable pub editNumbers : List ℕ
+editNumbers = 1 ∷ 3 ∷ 4 ∷ 5 ∷ 6 ∷ 7 ∷ 13 ∷ 2 ∷ 9 ∷ 10 ∷ 11 ∷ 12 ∷ []
+
+-- ---- the contracts
+
+-- reading tag t into the lent sheet buffer answered r and left `sheet` in the buffer
+pub record Reads (t buffer : List ℕ) (r : ReadAnswer) (sheet : List ℕ) : Type 0 where
+  pub answered : readGiven r ≡ reading pageSize t buffer .answer
+  pub left : sheet ≡ reading pageSize t buffer .sheet
+
+-- writing sheet s onto tag t answered r and left `tag` there
+pub record Writes (s t locks : List ℕ) (r : WriteAnswer) (tag : List ℕ) : Type 0 where
+  pub answered : writeGiven r ≡ writing pageSize s t locks .answer
+  pub left : tag ≡ writing pageSize s t locks .tag
+
+-- editing element n of tag t answered r, left `tag` there and `old` in the old-element buffer
+pub record Edits (t locks : List ℕ) (n : ℕ) (s buffer : List ℕ) (r : EditAnswer) (tag old : List ℕ) : Type 0 where
+  pub answered : editGiven r ≡ editing pageSize t locks n s buffer .answer
+  pub left : tag ≡ editing pageSize t locks n s buffer .tag
+  pub handed : old ≡ editing pageSize t locks n s buffer .old

@@ -1,0 +1,11 @@
+#ifndef LIBC_STDLIB_H
+#define LIBC_STDLIB_H
+
+#include <stddef.h>
+
+void exit(int status);
+void qsort(void *items, size_t count, size_t size,
+           int (*order)(const void *, const void *));
+unsigned long strtoul(const char *text, char **end, int base);
+
+#endif

@@ -1,0 +1,13 @@
+#ifndef LIBC_TIME_H
+#define LIBC_TIME_H
+
+#define CLOCK_MONOTONIC 1
+
+struct timespec {
+    long tv_sec;
+    long tv_nsec;
+};
+
+int clock_gettime(int clock, struct timespec *now);
+
+#endif

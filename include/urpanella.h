@@ -1,0 +1,156 @@
+/* urpanella.h: RFID tags of libraries (ISO 28560-3), for hosts in C and C++.
+
+   Three calls over byte buffers: urp_read takes a tag apart into a sheet of
+   elements, urp_write lays a sheet out on a tag, urp_edit changes one element
+   on a tag. Radio commands and the choice of pages to lock are the host's.
+
+   TAG AND LOCK MAP
+   A tag has 32 bytes, or a multiple of 4 from 36 to 2,048. A page is 4 bytes.
+   The lock map has one byte for each page of the tag: 0 open, 1 locked.
+
+   SHEET
+       count of entries         2 bytes, low byte first
+       then for each entry
+         element number         1 byte
+         offset of its bytes    2 bytes, low byte first, from the sheet's start
+         length of its bytes    1 byte
+       then the bytes of all entries, in entry order, with no gap; they end
+       the sheet.
+   Numbers rise strictly; 255 comes last and may repeat, in tag order.
+
+   ELEMENTS (a text byte is 20 to 7E hex)
+       1    primary item identifier: text
+       3    owner (ISIL): 1 to 4 capitals, a hyphen, and 1 to 11 of
+            A-Z a-z 0-9 / - :
+       4    set information: parts, then ordinal, each 2 bytes, low byte first;
+            both at most 255, the ordinal at most the parts
+       5    usage: 1 byte, main qualifier in the high four bits, sub qualifier
+            in the low four
+       19   media format: 1 byte, not 00
+       22   alternative item identifier: text
+       23   alternative owner: 02 or 03, then text
+       255  a carried block: a block of the tag, whole and well formed, no
+            filler, ID not 1; the sheet holds it byte for byte
+   1, 3, 22 and 23 are never empty, and 23 has text after its first byte. 4 and
+   5 are always present. 3 and 23 clash. 22 clashes with a 1 of more than 16
+   bytes.
+
+   OF EVERY CALL
+   The answer is 0 when the work is done, else the number of the refusal, one of
+   those below. The conditions are tested in the order that is given with the
+   call, each over the whole input: the answer is the first that holds.
+   At a refusal nothing changes: no byte of any buffer, and none of the results.
+   A length of 0 means no bytes, and the pointer beside it may then be null. A
+   length is never more than what the buffer has. The results (used, pages,
+   old_used) are never null.
+   The buffers and results of one call are separate: none overlaps another.
+   Nothing is kept from one call to the next and nothing is allocated, so calls
+   on different buffers may run at the same time. */
+#ifndef URPANELLA_H
+#define URPANELLA_H
+
+#include <stddef.h>
+#include <stdint.h>
+
+#ifdef __cplusplus
+extern "C" {
+#endif
+
+/* Sizes that always suffice. No tag gives a sheet of more than 4,763 bytes: 2
+   for the count; 4 for each of at most 671 carried blocks (3 bytes is the
+   shortest, and 2,014 bytes follow the first 34) and 7 other entries; 2,014
+   bytes of blocks; 35 bytes of elements that stand in the first 34 bytes. */
+#define URP_PAGE 4
+#define URP_TAG_MAX 2048
+#define URP_LOCKS_MAX 512
+#define URP_SHEET_MAX 8192
+#define URP_OLD_MAX 255
+
+/* Element numbers. */
+#define URP_ELEMENT_PRIMARY_ITEM 1
+#define URP_ELEMENT_OWNER 3
+#define URP_ELEMENT_SET 4
+#define URP_ELEMENT_USAGE 5
+#define URP_ELEMENT_MEDIA 19
+#define URP_ELEMENT_ALTERNATIVE_ITEM 22
+#define URP_ELEMENT_ALTERNATIVE_OWNER 23
+#define URP_ELEMENT_CARRIED 255
+
+/* Answers. urpanella_text.h has a sentence for each. */
+#define URP_DONE 0
+#define URP_SIZE 1      /* tag length; or a lock map that has not one byte for
+                           each page, or a byte above 1 */
+#define URP_ROOM 2      /* sheet buffer too short, or old-element buffer under
+                           255 bytes */
+#define URP_CONTENT 3   /* content parameter not 1 */
+#define URP_CHECK 4     /* CRC differs */
+#define URP_BLOCK 5     /* damage in the chain of blocks */
+#define URP_FIELD 6     /* a field breaks its form, or the tag has an ordinal
+                           above its parts */
+#define URP_MISMATCH 7  /* usage, marker and block 1 disagree */
+#define URP_SHEET 8     /* header, order, offsets or end of the sheet wrong */
+#define URP_VALUE 9     /* unknown number, bad value, 4 or 5 missing */
+#define URP_CLASH 10    /* two elements clash */
+#define URP_LARGE 11    /* no layout in this tag or in block 1 */
+#define URP_LOCKED 12   /* a locked page would get other bytes */
+#define URP_LOOSE 13    /* editing: readable, but not the writer's own layout */
+#define URP_OFFSET 14   /* reading: an offset would pass 65,535 */
+
+/* Reads a tag into a sheet.
+   Takes   tag[0 .. tag_len): the tag. It is only read.
+           sheet[0 .. sheet_len): room for the sheet; URP_SHEET_MAX always
+           suffices, and room for exactly the sheet is enough.
+   Done    sheet[0 .. *used) is the sheet and *used its length; the bytes of
+           the buffer from there on are as they were.
+   Refuses 1 3 4 5 6 7 14 2, in this order. */
+uint32_t urp_read(const uint8_t *tag, size_t tag_len,
+                  uint8_t *sheet, size_t sheet_len,
+                  size_t *used);
+
+/* Lays a sheet out on a tag, whatever the tag held before.
+   Takes   sheet[0 .. sheet_len): the whole sheet. It is only read.
+           tag[0 .. tag_len): the tag as it is now; it need not be readable.
+           locks[0 .. locks_len): its lock map, locks_len being tag_len / 4.
+           It is only read.
+   Done    tag holds the sheet's elements and 00 in every byte that they leave
+           free. *pages is the count of pages whose bytes differ before and
+           after; it never exceeds the open pages. A locked page keeps its
+           bytes: it is refused only where they would change.
+   Refuses 1 8 9 10 11 12, in this order. */
+uint32_t urp_write(const uint8_t *sheet, size_t sheet_len,
+                   uint8_t *tag, size_t tag_len,
+                   const uint8_t *locks, size_t locks_len,
+                   size_t *pages);
+
+/* Sets or removes one element on a tag that has urp_write's own layout.
+   Takes   tag[0 .. tag_len): the tag as it is now.
+           locks[0 .. locks_len): its lock map, as for urp_write.
+           number: the element, one of 1, 3, 4, 5, 19, 22 and 23.
+           value[0 .. value_len): its new bytes, at most 255, in the form of
+           the sheet; value_len 0 removes the element. It is only read.
+           old[0 .. old_len): room for the old element; old_len is 255
+           (URP_OLD_MAX) or more, also where there is none.
+   Done    tag has the element's new bytes and is otherwise laid out as
+           urp_write would. *pages is the count of pages whose bytes differ
+           before and after. old[0 .. *old_used) is the element as it was, in
+           the form of the sheet, *old_used being 0 where there was none; the
+           bytes of the buffer from there on are as they were.
+           Setting what is already there, or removing what is not, is done and
+           changes 0 pages. Handing the old element back as value, under the
+           same lock map, undoes the edit and counts the same pages; value and
+           old are separate, so copy it first.
+   Refuses 1 3 4 5 6 7 13 2 9 10 11 12, in this order. Removing 4 or 5 is 9; so
+           are 255, any other number that is not in the table, and more than
+           255 new bytes. */
+uint32_t urp_edit(uint8_t *tag, size_t tag_len,
+                  const uint8_t *locks, size_t locks_len,
+                  uint32_t number,
+                  const uint8_t *value, size_t value_len,
+                  uint8_t *old, size_t old_len,
+                  size_t *pages, size_t *old_used);
+
+#ifdef __cplusplus
+}
+#endif
+
+#endif

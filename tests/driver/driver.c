@@ -1,0 +1,230 @@
+/* Runs a library with the interface of urpanella.h on cases from standard input.
+
+   A case: the call (1 read, 2 write, 3 edit), a byte of flags (bit k: buffer k, where it has no bytes, is passed as a
+   null pointer), the element number (4 bytes), the length of each buffer (4 bytes each), the bytes of each buffer.
+   Buffers come in the order of the call's parameters.
+
+   An outcome: the answer (4 bytes), then each result and each buffer as it is afterwards, with the canary bytes that
+   stand before it. Numbers are low byte first. A result is preset, so that one left alone is seen.
+
+   Every buffer and every result ends where a page begins that nobody may touch, so a step too far stops the driver.
+
+   Build: cc -I include tests/driver/driver.c LIBRARY -o driver
+   Where a compiler has no headers at all: add -DURP_NO_LIBC_HEADERS and -I tests/driver/bare. */
+
+#ifdef URP_NO_LIBC_HEADERS
+#include <stddef.h>
+#define PROT_NONE 0
+#define PROT_READ 1
+#define PROT_WRITE 2
+#define MAP_PRIVATE 2
+#define MAP_ANONYMOUS 0x20
+#define MAP_FAILED ((void *)-1)
+extern void *mmap(void *, size_t, int, int, int, long);
+extern int mprotect(void *, size_t, int);
+extern long read(int, void *, size_t);
+extern long write(int, const void *, size_t);
+extern void _exit(int);
+extern void *memcpy(void *, const void *, size_t);
+#else
+#define _DEFAULT_SOURCE
+#include <string.h>
+#include <sys/mman.h>
+#include <unistd.h>
+#endif
+
+#include "urpanella.h"
+
+enum { READ = 1, WRITE = 2, EDIT = 3 };
+enum { MOST_BUFFERS = 4, MOST_RESULTS = 2, PLACES = MOST_BUFFERS + MOST_RESULTS };
+enum { CANARY = 32, PRESET = 0xA5 };
+
+/* Multiples of every page size in use. */
+#define ROOM ((size_t)1 << 20)
+#define GUARD ((size_t)1 << 16)
+
+static uint8_t *end_of[PLACES];
+
+static uint8_t input[1 << 16];
+static size_t input_used, input_length;
+static uint8_t output[1 << 16];
+static size_t output_length;
+
+static void stop(const char *line)
+{
+    size_t length = 0;
+    while (line[length] != 0)
+        length++;
+    if (write(2, line, length) < 0)
+        _exit(3);
+    _exit(2);
+}
+
+static void flush(void)
+{
+    size_t done = 0;
+    while (done < output_length) {
+        long count = write(1, output + done, output_length - done);
+        if (count <= 0)
+            stop("driver: standard output is closed\n");
+        done += (size_t)count;
+    }
+    output_length = 0;
+}
+
+static void give(const uint8_t *bytes, size_t length)
+{
+    while (length > 0) {
+        size_t part = sizeof output - output_length;
+        if (part > length)
+            part = length;
+        memcpy(output + output_length, bytes, part);
+        output_length += part;
+        bytes += part;
+        length -= part;
+        if (output_length == sizeof output)
+            flush();
+    }
+}
+
+/* 1 when there is a byte to take, 0 at the end of the input. */
+static int filled(void)
+{
+    long count;
+    if (input_used < input_length)
+        return 1;
+    count = read(0, input, sizeof input);
+    if (count < 0)
+        stop("driver: standard input cannot be read\n");
+    input_used = 0;
+    input_length = (size_t)count;
+    return count > 0;
+}
+
+static void take(uint8_t *bytes, size_t length)
+{
+    while (length > 0) {
+        size_t part;
+        if (!filled())
+            stop("driver: the input ends inside a case\n");
+        part = input_length - input_used;
+        if (part > length)
+            part = length;
+        memcpy(bytes, input + input_used, part);
+        input_used += part;
+        bytes += part;
+        length -= part;
+    }
+}
+
+static uint32_t take_number(void)
+{
+    uint8_t b[4];
+    take(b, 4);
+    return (uint32_t)b[0] | (uint32_t)b[1] << 8 | (uint32_t)b[2] << 16 | (uint32_t)b[3] << 24;
+}
+
+static void open_rooms(void)
+{
+    int place;
+    for (place = 0; place < PLACES; place++) {
+        uint8_t *room = mmap(NULL, ROOM + GUARD, PROT_READ | PROT_WRITE, MAP_PRIVATE | MAP_ANONYMOUS, -1, 0);
+        if ((void *)room == MAP_FAILED || mprotect(room + ROOM, GUARD, PROT_NONE) != 0)
+            stop("driver: no memory for the buffers\n");
+        end_of[place] = room + ROOM;
+    }
+}
+
+/* The start of so many bytes that end at the guard, with fresh canary bytes before them. */
+static uint8_t *placed(int place, size_t length)
+{
+    uint8_t *start = end_of[place] - length;
+    int i;
+    for (i = 1; i <= CANARY; i++)
+        start[-i] = (uint8_t)(0xC3 ^ i);
+    return start;
+}
+
+static size_t *placed_result(int place)
+{
+    uint8_t *start = placed(place, sizeof(size_t));
+    size_t i;
+    for (i = 0; i < sizeof(size_t); i++)
+        start[i] = PRESET;
+    return (size_t *)(void *)start;
+}
+
+struct work {
+    uint8_t call;
+    uint32_t number;
+    int buffers;
+    int results;
+    size_t length[MOST_BUFFERS];
+    uint8_t *start[MOST_BUFFERS];
+    uint8_t *passed[MOST_BUFFERS];
+    size_t *result[MOST_RESULTS];
+};
+
+static void take_work(struct work *w)
+{
+    uint8_t flags;
+    int i;
+    take(&w->call, 1);
+    take(&flags, 1);
+    w->number = take_number();
+    if (w->call < READ || w->call > EDIT)
+        stop("driver: a call that does not exist\n");
+    w->buffers = w->call == READ ? 2 : w->call == WRITE ? 3 : 4;
+    w->results = w->call == EDIT ? 2 : 1;
+    for (i = 0; i < w->buffers; i++) {
+        w->length[i] = take_number();
+        if (w->length[i] > ROOM - CANARY)
+            stop("driver: a buffer too long\n");
+    }
+    for (i = 0; i < w->buffers; i++) {
+        w->start[i] = placed(i, w->length[i]);
+        take(w->start[i], w->length[i]);
+        w->passed[i] = w->length[i] == 0 && (flags >> i & 1) != 0 ? NULL : w->start[i];
+    }
+    for (i = 0; i < w->results; i++)
+        w->result[i] = placed_result(MOST_BUFFERS + i);
+}
+
+static uint32_t run(const struct work *w)
+{
+    uint8_t *const *b = w->passed;
+    const size_t *n = w->length;
+    switch (w->call) {
+    case READ:
+        return urp_read(b[0], n[0], b[1], n[1], w->result[0]);
+    case WRITE:
+        return urp_write(b[0], n[0], b[1], n[1], b[2], n[2], w->result[0]);
+    default:
+        return urp_edit(b[0], n[0], b[1], n[1], w->number, b[2], n[2], b[3], n[3], w->result[0], w->result[1]);
+    }
+}
+
+static void give_outcome(const struct work *w, uint32_t answer)
+{
+    uint8_t b[4];
+    int i;
+    for (i = 0; i < 4; i++)
+        b[i] = (uint8_t)(answer >> 8 * i);
+    give(b, 4);
+    for (i = 0; i < w->results; i++)
+        give((const uint8_t *)w->result[i] - CANARY, CANARY + sizeof(size_t));
+    for (i = 0; i < w->buffers; i++)
+        give(w->start[i] - CANARY, CANARY + w->length[i]);
+}
+
+int main(void)
+{
+    struct work work;
+    open_rooms();
+    while (filled()) {
+        take_work(&work);
+        give_outcome(&work, run(&work));
+        flush(); /* so that the first case without an outcome is the one that stopped the driver */
+    }
+    return 0;
+}

@@ -1,0 +1,64 @@
+//! What the command line asks for.
+
+use crate::model::refusal::{self, BLOCK, CHECK, CLASH, EDITING, LARGE, LOCKED, OFFSET, READING, VALUE, WRITING};
+
+pub const USAGE: &str = "usage: compare read|write|edit|histories|torn|taglist SEED COUNT PROGRAM [ARGUMENT ..]";
+
+#[derive(Clone, Copy, PartialEq, Eq)]
+pub enum Subject {
+    Read,
+    Write,
+    Edit,
+    Histories,
+    Torn,
+    Taglist,
+}
+
+pub struct Arguments {
+    pub subject: Subject,
+    pub seed: u64,
+    pub count: usize,
+    /// The driver, or `taglist`, with the words before and after it that its machine needs.
+    pub program: Vec<String>,
+}
+
+impl Subject {
+    const ALL: [Subject; 6] =
+        [Subject::Read, Subject::Write, Subject::Edit, Subject::Histories, Subject::Torn, Subject::Taglist];
+
+    pub fn name(self) -> &'static str {
+        match self {
+            Subject::Read => "read",
+            Subject::Write => "write",
+            Subject::Edit => "edit",
+            Subject::Histories => "histories",
+            Subject::Torn => "torn",
+            Subject::Taglist => "taglist",
+        }
+    }
+
+    /// The refusals that a run has to meet. 14 is left out, since no tag gives it.
+    pub fn to_be_met(self) -> Vec<u32> {
+        let all: &[u32] = match self {
+            Subject::Read => &READING,
+            Subject::Write => &WRITING,
+            Subject::Edit => &EDITING,
+            Subject::Histories => &[refusal::ROOM, VALUE, CLASH, LARGE, LOCKED],
+            Subject::Torn | Subject::Taglist => &[CHECK, BLOCK],
+        };
+        all.iter().copied().filter(|number| *number != OFFSET).collect()
+    }
+}
+
+/// Takes the words after the program's own name apart.
+pub fn parse(words: &[String]) -> Result<Arguments, String> {
+    let [subject, seed, count, program @ ..] = words else { return Err(USAGE.to_string()) };
+    let subject = Subject::ALL.into_iter().find(|known| known.name() == subject);
+    let subject = subject.ok_or_else(|| format!("compare: unknown subject; {USAGE}"))?;
+    let seed = seed.parse().map_err(|_| format!("compare: the seed {seed} is no number"))?;
+    let count = count.parse().map_err(|_| format!("compare: the count {count} is no number"))?;
+    if program.is_empty() {
+        return Err(format!("compare: no program to run; {USAGE}"));
+    }
+    Ok(Arguments { subject, seed, count, program: program.to_vec() })
+}

@@ -1,0 +1,96 @@
+//! Cases of writing.
+
+use super::case::{Call, Case};
+use crate::examples;
+use crate::generate::{locks, sheets, tags};
+use crate::model::{self, pages};
+use crate::random::Random;
+
+pub fn all(seed: u64, count: usize) -> impl Iterator<Item = Case> + Send {
+    let mut random = Random::new(seed);
+    let fixed = published().chain(short_sheets()).chain(changed_sheets()).chain(lengths());
+    fixed.chain((0..count).map(move |_| generated(&mut random)))
+}
+
+/// The papers' sheets: on an empty tag, on the tag that is already so with all pages locked, with each page locked.
+fn published() -> impl Iterator<Item = Case> + Send {
+    examples::all().into_iter().flat_map(|example| {
+        let length = example.tag.len();
+        let locked_pages = (0..length / pages::PAGE).map(move |page| {
+            let mut map = locks::open(length);
+            map[page] = 1;
+            (vec![0; length], map)
+        });
+        let whole = [(vec![0; length], locks::open(length)), (example.tag.clone(), locks::all_locked(length))];
+        whole.into_iter().chain(locked_pages).map(move |(tag, map)| {
+            Case::new("the papers' examples, each page locked", Call::write(example.sheet.clone(), tag, map))
+        })
+    })
+}
+
+/// Every sheet of two bytes or less, and some of three.
+fn short_sheets() -> impl Iterator<Item = Case> + Send {
+    let two = (0..=u16::MAX).map(|count| count.to_le_bytes().to_vec());
+    let others = (0..=255).flat_map(|byte| [vec![byte], vec![0, 0, byte], vec![byte, 0, 0]]);
+    two.chain(others).chain([vec![]]).map(|sheet| {
+        Case::new("all sheets of up to 2 bytes", Call::write(sheet, vec![0xEE; 36], locks::open(36)))
+    })
+}
+
+/// Every change of one byte of a sheet, every shorter sheet, and longer ones.
+fn changed_sheets() -> impl Iterator<Item = Case> + Send {
+    let group = "every change of one byte of 3 sheets, every shorter one";
+    examples::all().into_iter().flat_map(move |example| {
+        let sheet = example.sheet;
+        let changed = {
+            let sheet = sheet.clone();
+            (0..sheet.len()).flat_map(move |place| {
+                let sheet = sheet.clone();
+                (1..=255u8).map(move |change| {
+                    let mut changed = sheet.clone();
+                    changed[place] ^= change;
+                    changed
+                })
+            })
+        };
+        let cut = (0..=sheet.len() + 4).map(move |length| {
+            let mut cut = sheet.clone();
+            cut.resize(length, 0);
+            cut
+        });
+        changed.chain(cut).map(move |sheet| Case::new(group, Call::write(sheet, vec![0xEE; 76], locks::open(76))))
+    })
+}
+
+/// One sheet on every length up to 2,100.
+fn lengths() -> impl Iterator<Item = Case> + Send {
+    (0..=2100).map(|length| {
+        let sheet = examples::whole_case().sheet;
+        Case::new("all lengths 0 to 2,100", Call::write(sheet, vec![0xEE; length], locks::open(length)))
+    })
+}
+
+/// Any sheet for a tag that is nearly so already, of another content, or nothing of the kind.
+fn generated(random: &mut Random) -> Case {
+    let length = if random.one_in(40) { tags::bad_length(random) } else { tags::length(random) };
+    let sheet = sheets::any(random, length);
+    let tag = old_tag(random, &sheet, length);
+    let map = locks::any(random, length, 30);
+    Case::new("generated sheets, tags and lock maps", Call::write(sheet, tag, map))
+}
+
+fn old_tag(random: &mut Random, sheet: &[u8], length: usize) -> Vec<u8> {
+    let mut tag = vec![0; length];
+    match random.below(4) {
+        0 => {}
+        1 => tag = random.bytes(length),
+        _ => {
+            let open = locks::open(length);
+            if model::writing(sheet, &mut tag, &open).is_ok() {
+                let places = random.below(3);
+                (0..places).for_each(|_| tag[random.below(length)] ^= 1);
+            }
+        }
+    }
+    tag
+}

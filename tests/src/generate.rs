@@ -1,0 +1,7 @@
+//! Inputs from a seed: whole, on the edge, loose and damaged.
+
+pub mod edits;
+pub mod locks;
+pub mod sheets;
+pub mod tags;
+pub mod values;

@@ -1,0 +1,27 @@
+//! Document 01's rules, each in one place. The three calls work on lent bytes, as the library's do.
+//!
+//! What a later request changes stands alone: the text rule in [`text`], the page size in [`pages`], the answer to
+//! damage in [`chain`], the list of element numbers in [`element`].
+
+pub mod block_one;
+pub mod chain;
+pub mod content;
+pub mod crc;
+pub mod editing;
+pub mod element;
+pub mod fields;
+pub mod isil;
+pub mod layout;
+pub mod listing;
+pub mod pages;
+pub mod reading;
+pub mod refusal;
+pub mod sheet;
+pub mod text;
+pub mod writing;
+
+pub use content::Content;
+pub use editing::{editing, Edited};
+pub use listing::listing;
+pub use reading::reading;
+pub use writing::writing;

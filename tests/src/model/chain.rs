@@ -1,0 +1,73 @@
+//! "The chain of blocks (001, clause 7)".
+
+use super::refusal::{self, need};
+
+/// "Blocks start at byte 34."
+pub const START: usize = 34;
+
+/// The library extension block.
+pub const BLOCK_ONE: u16 = 1;
+
+/// What stands at the place where a block would begin.
+enum Next<'a> {
+    End,
+    Filler,
+    Block(&'a [u8]),
+}
+
+/// All blocks in tag order, block 1 among them and fillers not; refused where there is damage anywhere in the chain.
+pub fn blocks(tag: &[u8]) -> Result<Vec<&[u8]>, u32> {
+    let mut found: Vec<&[u8]> = Vec::new();
+    let mut rest = tag.get(START..).unwrap_or(&[]);
+    loop {
+        match next(rest)? {
+            Next::End => return Ok(found),
+            Next::Filler => rest = &rest[1..],
+            Next::Block(block) => {
+                sound(id(block) != BLOCK_ONE || found.iter().all(|other| id(other) != BLOCK_ONE))?;
+                found.push(block);
+                rest = &rest[block.len()..];
+            }
+        }
+    }
+}
+
+/// The one place that answers damage.
+fn sound(holds: bool) -> Result<(), u32> {
+    need(holds, refusal::BLOCK)
+}
+
+/// Judges the beginning of what is left of a tag.
+fn next(rest: &[u8]) -> Result<Next<'_>, u32> {
+    let length = match rest.first() {
+        None | Some(0) => return Ok(Next::End),
+        Some(1) => return Ok(Next::Filler),
+        Some(length) => usize::from(*length),
+    };
+    sound(length != 2)?;
+    sound(length <= rest.len())?;
+    let block = &rest[..length];
+    sound(id(block) != 0 && (length >= 4 || !is_structured(block)))?;
+    sound(!is_structured(block) || exclusive_or(block) == 0)?;
+    Ok(Next::Block(block))
+}
+
+/// "a two-byte ID, low byte first"
+pub fn id(block: &[u8]) -> u16 {
+    u16::from_le_bytes([block[1], block[2]])
+}
+
+/// "IDs 1 to 100 are structured."
+pub fn is_structured(block: &[u8]) -> bool {
+    (1..=100).contains(&id(block))
+}
+
+/// "the XOR of the whole block"
+pub fn exclusive_or(block: &[u8]) -> u8 {
+    block.iter().fold(0, |sum, byte| sum ^ byte)
+}
+
+/// "a carried block, whole and well formed, no filler, ID not 1"
+pub fn is_carried(value: &[u8]) -> bool {
+    matches!(next(value), Ok(Next::Block(block)) if block.len() == value.len() && id(block) != BLOCK_ONE)
+}

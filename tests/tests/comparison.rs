@@ -1,0 +1,102 @@
+//! The comparison sees what it is there to see, and bad arguments get one line.
+
+use independent::compare::arguments::{parse, Subject};
+use independent::compare::case::{Call, Case};
+use independent::compare::engine::collect;
+use independent::compare::{read_cases, run, taglist};
+use independent::examples::b2;
+use independent::generate::locks;
+use independent::model::listing;
+use std::collections::BTreeSet;
+
+fn words(line: &str) -> Vec<String> {
+    line.split_whitespace().map(str::to_string).collect()
+}
+
+/// The one line of a run that fails.
+fn complaint(line: &str) -> String {
+    let result = parse(&words(line)).and_then(|arguments| run(&arguments));
+    let complaint = result.expect_err("it fails");
+    assert_eq!(complaint.lines().count(), 1, "{complaint}");
+    complaint
+}
+
+#[test]
+fn bad_arguments_get_one_clear_line() {
+    assert!(complaint("").starts_with("usage: compare"));
+    assert!(complaint("read 1").starts_with("usage: compare"));
+    assert!(complaint("reed 1 2 true").contains("unknown subject"));
+    assert!(complaint("read one 2 true").contains("seed one is no number"));
+    assert!(complaint("read 1 -2 true").contains("count -2 is no number"));
+    assert!(complaint("read 1 2").contains("no program"));
+    assert!(complaint("read 1 2 /nowhere/driver").contains("/nowhere/driver does not start"));
+    assert!(complaint("taglist 1 2 /nowhere/taglist").contains("/nowhere/taglist does not start"));
+}
+
+#[test]
+fn a_program_that_stops_or_prints_otherwise_is_seen() {
+    assert!(complaint("read 1 2 true").contains("the driver stopped"));
+    assert!(complaint("edit 1 2 false").contains("the driver stopped"));
+    assert!(complaint("taglist 1 0 cat").contains("instead of \"elements 4"));
+    assert!(complaint("taglist 1 0 echo elements 3").contains("prints \"elements 3\\n\""));
+}
+
+#[test]
+fn the_shortest_case_that_differs_is_told_and_so_is_a_refusal_that_was_not_met() {
+    let lengths = [100, 85, 120, 84];
+    let cases = || lengths.map(|room| Case::new("test", Call::read(b2().tag, vec![0; room]))).into_iter().collect::<Vec<_>>();
+    let right: Vec<Vec<u8>> = cases().iter().map(|case| case.expected.frame()).collect();
+    let judged = |frames: &[Vec<u8>], to_be_met: Vec<u32>| {
+        collect([cases()], &frames.concat()[..]).and_then(|report| report.judged("test", 1, to_be_met))
+    };
+    assert!(judged(&right, vec![2]).unwrap().contains("4 cases from seed 1"));
+    assert_eq!(judged(&right, vec![2, 5]), Err("test: 4 cases, and none is refused 5".to_string()));
+    let mut wrong = right.clone();
+    wrong[0][0] = 5;
+    *wrong[1].last_mut().unwrap() ^= 1;
+    let line = judged(&wrong, vec![2]).unwrap_err();
+    assert!(line.starts_with("test: 2 of 4 cases differ, the shortest: byte 84 of sheet is 62 instead of 63 at read tag=1101"), "{line}");
+    assert!(line.ends_with(" sheet[85]"), "{line}");
+    assert!(judged(&right[..3], vec![2]).unwrap_err().ends_with(" sheet[84]"), "the case without an outcome");
+}
+
+#[test]
+fn every_changed_byte_of_an_outcome_is_named() {
+    let call = Call::edit(b2().tag, locks::open(76), 19, vec![7], vec![0xEE; 260]);
+    let case = Case::new("test", call);
+    let right = case.expected.frame();
+    assert_eq!(right.len(), 4 + 2 * 40 + (32 + 76) + (32 + 19) + (32 + 1) + (32 + 260));
+    assert_eq!(case.difference(&right), "no difference");
+    let mut named = BTreeSet::new();
+    for place in 0..right.len() {
+        let mut got = right.clone();
+        got[place] ^= 1;
+        named.insert(case.difference(&got).split_whitespace().filter(|word| word.parse::<u8>().is_err()).take(4).collect::<String>());
+    }
+    for name in ["pages", "old_used", "tag", "locks", "value", "old"] {
+        assert!(named.contains(&format!("bytesbefore{name}have")), "{named:?}");
+        assert!(named.contains(&format!("byteof{name}is")), "{named:?}");
+    }
+}
+
+#[test]
+fn outcomes_are_those_of_document_01() {
+    let accepted = Call::read(b2().tag, vec![0; 100]).outcome();
+    assert_eq!((accepted.answer, &accepted.results[..]), (0, &[85][..]));
+    assert_eq!(accepted.buffers[1][..85], b2().sheet);
+    let refused = Call::read(b2().tag, vec![0; 84]).outcome();
+    assert_eq!((refused.answer, &refused.results[..]), (2, &[0xA5A5_A5A5_A5A5_A5A5][..]));
+    let frame = Call::edit(vec![1, 2], vec![3], 0x0102_0304, vec![], vec![4]).frame(true);
+    assert_eq!(frame, [3, 255, 4, 3, 2, 1, 2, 0, 0, 0, 1, 0, 0, 0, 0, 0, 0, 0, 1, 0, 0, 0, 1, 2, 3, 4]);
+}
+
+#[test]
+fn fixed_cases_alone_meet_every_refusal_of_reading() {
+    let met: BTreeSet<u32> = read_cases::all(1, 0).map(|case| case.expected.answer).collect();
+    assert!(Subject::Read.to_be_met().iter().all(|number| met.contains(number)), "{met:?}");
+    let listed: BTreeSet<String> = taglist::fixed().iter().map(|tag| listing(tag).lines().next().unwrap().to_string()).collect();
+    for number in [1, 3, 4, 5, 6, 7] {
+        assert!(listed.contains(&format!("refused {number}")), "{listed:?}");
+    }
+    assert!(listed.contains("elements 673"), "{listed:?}");
+}

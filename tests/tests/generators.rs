@@ -1,0 +1,127 @@
+//! The generators reach what they are for.
+
+use independent::build::hex;
+use independent::generate::{edits, locks, sheets, tags};
+use independent::model::refusal::{EDITING, OFFSET, READING, WRITING};
+use independent::model::{chain, editing, element, pages, reading, sheet, writing};
+use independent::random::Random;
+use std::collections::{BTreeMap, BTreeSet};
+
+/// Every refusal of the order, 14 excepted, and acceptance were met at least so often.
+fn all_met(met: &BTreeMap<u32, usize>, order: &[u32], least: usize) {
+    for number in order.iter().filter(|number| **number != OFFSET).chain([&0]) {
+        assert!(met.get(number).is_some_and(|times| *times >= least), "answer {number} in {met:?}");
+    }
+}
+
+#[test]
+fn the_generator_of_numbers_is_splitmix64() {
+    let mut random = Random::new(1_234_567);
+    let first: Vec<u64> = (0..3).map(|_| random.next()).collect();
+    assert_eq!(first, [6457827717110365317, 3203168211198807973, 9817491932198370423]);
+}
+
+#[test]
+fn tags_of_any_kind_meet_every_refusal_of_reading() {
+    let (mut random, mut met) = (Random::new(21), BTreeMap::new());
+    for _ in 0..20_000 {
+        let tag = tags::any(&mut random);
+        let room = if random.one_in(20) { 10 } else { 5000 };
+        let answer = reading(&tag, &mut vec![0; room]).err().unwrap_or(0);
+        *met.entry(answer).or_default() += 1;
+    }
+    all_met(&met, &READING, 100);
+}
+
+#[test]
+fn sheets_and_lock_maps_meet_every_refusal_of_writing() {
+    let (mut random, mut met) = (Random::new(22), BTreeMap::new());
+    for _ in 0..20_000 {
+        let length = if random.one_in(40) { tags::bad_length(&mut random) } else { tags::length(&mut random) };
+        let sheet = sheets::any(&mut random, length);
+        let map = locks::any(&mut random, length, 30);
+        let answer = writing(&sheet, &mut vec![0; length], &map).err().unwrap_or(0);
+        *met.entry(answer).or_default() += 1;
+    }
+    all_met(&met, &WRITING, 100);
+}
+
+#[test]
+fn edits_of_any_tag_meet_every_refusal_of_editing() {
+    let (mut random, mut met) = (Random::new(23), BTreeMap::new());
+    for _ in 0..40_000 {
+        let mut tag = if random.one_in(2) { tags::any(&mut random) } else { tags::own(&mut random) };
+        let content = reading::content_of(&tag).unwrap_or_default();
+        let edit = edits::any(&mut random, &content);
+        let map = locks::any(&mut random, tag.len(), 40);
+        let mut old = vec![0; edits::old_room(&mut random, 25)];
+        let answer = editing(&mut tag, &map, edit.number, &edit.value, &mut old).err().unwrap_or(0);
+        *met.entry(answer).or_default() += 1;
+    }
+    all_met(&met, &EDITING, 100);
+}
+
+#[test]
+fn lengths_are_permitted_or_not_as_they_should_be() {
+    let mut random = Random::new(24);
+    let lengths: BTreeSet<usize> = (0..400_000).map(|_| tags::length(&mut random)).collect();
+    let permitted: BTreeSet<usize> = (0..3000).filter(|length| pages::is_tag_length(*length, 4)).collect();
+    assert!(lengths == permitted && permitted.len() == 505, "all lengths and no other");
+    assert!((0..5000).all(|_| !permitted.contains(&tags::bad_length(&mut random))));
+}
+
+#[test]
+fn contents_reach_the_edges() {
+    let mut random = Random::new(25);
+    let (mut identifiers, mut block_ones, mut ends, mut most) = (BTreeSet::new(), BTreeSet::new(), BTreeSet::new(), 0);
+    for _ in 0..20_000 {
+        let length = tags::length(&mut random);
+        let content = sheets::content(&mut random, length);
+        identifiers.insert(content.get(element::PRIMARY).len());
+        let large = writing(&sheet::of_content(&content).unwrap(), &mut vec![0; length], &locks::open(length)) == Err(11);
+        let carried: usize = content.carried.iter().map(Vec::len).sum();
+        if content.get(element::MEDIA).is_empty() && content.get(element::OTHER_ITEM).len() > 240 {
+            block_ones.insert((content.get(element::OTHER_ITEM).len(), large));
+        }
+        if carried > 0 && length < 100 {
+            ends.insert((length as isize - 34 - carried as isize, large));
+        }
+        most = most.max(content.carried.len());
+    }
+    for length in [0, 1, 15, 16, 17, 249, 250, 251, 255] {
+        assert!(identifiers.contains(&length), "an identifier of {length} bytes");
+    }
+    assert!(block_ones.contains(&(250, false)) && block_ones.contains(&(251, true)), "{block_ones:?}");
+    assert!(ends.contains(&(0, false)), "blocks that fill a tag exactly");
+    assert!(ends.contains(&(-1, true)), "blocks that fill it by one too many");
+    assert_eq!(most, 671, "blocks of 3 bytes on 2,048");
+}
+
+#[test]
+fn loose_tags_are_loose_in_every_way() {
+    let mut random = Random::new(26);
+    let (mut fillers, mut not_first, mut behind_end, mut before_marker) = (0, 0, 0, 0);
+    for _ in 0..5000 {
+        let tag = tags::loose(&mut random);
+        let Ok(blocks) = chain::blocks(&tag) else { continue };
+        fillers += usize::from(tag.get(34) == Some(&1));
+        not_first += usize::from(blocks.iter().skip(1).any(|block| chain::id(block) == 1));
+        let used = 34 + blocks.iter().map(|block| block.len()).sum::<usize>();
+        behind_end += usize::from(tag.get(used..).is_some_and(|rest| rest.first() == Some(&0) && rest.iter().any(|byte| *byte != 0)));
+        before_marker += usize::from((1..=3).contains(&tag[23]) && tag[21..23] != [0, 0]);
+    }
+    assert!([fillers, not_first, behind_end, before_marker].iter().all(|times| *times > 100));
+}
+
+#[test]
+fn a_sheet_past_the_last_offset_is_long_and_judged_right() {
+    let mut random = Random::new(27);
+    let met: BTreeSet<(usize, u32)> = (0..20)
+        .map(|_| {
+            let sheet = sheets::past_the_last_offset(&mut random);
+            (sheet.len(), writing(&sheet, &mut vec![0; 2048], &locks::open(2048)).unwrap_err())
+        })
+        .collect();
+    assert_eq!(met.into_iter().collect::<Vec<_>>(), [(65_283, 11), (65_542, 11), (65_801, 8), (66_060, 8)]);
+    assert_eq!(hex("0A fF"), [10, 255]);
+}

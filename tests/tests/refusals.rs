@@ -1,0 +1,164 @@
+//! Every refusal of every call, reached by an input with that fault alone, and the order among them: an input with all
+//! faults at once is mended fault by fault. `trial` checks each time that no buffer has changed.
+
+use independent::build::{self, block, Draft};
+use independent::generate::locks;
+use independent::model::refusal::{EDITING, OFFSET, READING, WRITING};
+use independent::model::sheet;
+use independent::trial::{carrying, edit_under, edited, read, read_into, sheet_with, tag_with, write, written};
+
+/// Tags of 64 bytes, each with one fault, and the refusal that reading and editing give for it.
+fn faulty_tags() -> Vec<(u32, Vec<u8>)> {
+    let plain = Draft::default();
+    let mut wrong_crc = plain.tag(64);
+    wrong_crc[20] ^= 1;
+    vec![
+        (1, plain.tag(66)),
+        (3, Draft { first: 0x12, ..plain.clone() }.tag(64)),
+        (4, wrong_crc),
+        (5, plain.clone().chain(&[&[2]]).tag(64)),
+        (5, plain.clone().chain(&[&[31, 101, 0]]).tag(64)),
+        (5, plain.clone().chain(&[&block(0, b"")]).tag(64)),
+        (5, plain.clone().chain(&[&[3, 100, 0]]).tag(64)),
+        (5, plain.clone().chain(&[&[4, 100, 0, 0]]).tag(64)),
+        (5, plain.clone().chain(&[&block(1, b""), &block(1, b"")]).tag(64)),
+        (6, Draft { ordinal: 2, ..plain.clone() }.tag(64)),
+        (6, plain.clone().item(&[7]).tag(64)),
+        (6, plain.clone().owner(b"DK").tag(64)),
+        (6, plain.clone().chain(&[&block(1, &[0, 7])]).tag(64)),
+        (7, plain.clone().item(&[1]).tag(64)),
+        (7, plain.clone().owner(&[0, 0, 1]).tag(64)),
+        (7, plain.clone().chain(&[&block(1, b"\0\0DK-1")]).tag(64)),
+        (7, plain.chain(&[&block(1, &[0, 0, 0, 0x20])]).tag(64)),
+    ]
+}
+
+#[test]
+fn reading_gives_each_refusal() {
+    assert_eq!(READING, [1, 3, 4, 5, 6, 7, 14, 2]);
+    for (number, tag) in faulty_tags() {
+        assert_eq!(read(&tag), Err(number));
+    }
+    let tag = tag_with(&[], 36);
+    assert_eq!(read_into(&tag, 14), Err(2));
+    assert_eq!(read_into(&tag, 15).map(|sheet| sheet.len()), Ok(15));
+    assert_eq!(sheet::of_content(&carrying(vec![block(300, &[1; 252]); 254])), Err(OFFSET));
+}
+
+#[test]
+fn reading_with_all_faults_at_once_gives_them_in_order() {
+    let mut draft = Draft { first: 0x12, ordinal: 2, ..Draft::default() }.owner(&[0, 0, 1]).chain(&[&[0x02]]);
+    let break_crc = |mut tag: Vec<u8>| {
+        tag[19] ^= 0xFF;
+        tag
+    };
+    let mut met = vec![read_into(&break_crc(draft.tag(62)), 0)];
+    met.push(read_into(&break_crc(draft.tag(64)), 0));
+    draft.first = 0x11;
+    met.push(read_into(&break_crc(draft.tag(64)), 0));
+    met.push(read_into(&draft.tag(64), 0));
+    draft.chain.clear();
+    met.push(read_into(&draft.tag(64), 0));
+    draft.ordinal = 1;
+    met.push(read_into(&draft.tag(64), 0));
+    draft.owner.clear();
+    met.push(read_into(&draft.tag(64), 0));
+    assert_eq!(met, [1, 3, 4, 5, 6, 7, 2].map(Err));
+    assert!(read(&draft.tag(64)).is_ok());
+}
+
+#[test]
+fn writing_gives_each_refusal() {
+    assert_eq!(WRITING, [1, 8, 9, 10, 11, 12]);
+    let good = sheet_with(&[(1, b"B1")]);
+    assert_eq!(written(&good, 35), Err(1));
+    assert_eq!(write(&good, &mut vec![0; 36], &[0; 8]), Err(1));
+    assert_eq!(write(&good, &mut vec![0; 36], &[0, 0, 0, 0, 0, 0, 0, 0, 2]), Err(1));
+    assert_eq!(written(&good[..good.len() - 1], 36), Err(8));
+    assert_eq!(written(&sheet_with(&[(2, b"x")]), 36), Err(9));
+    assert_eq!(written(&sheet_with(&[(3, b"DK-1"), (23, b"\x03x")]), 36), Err(10));
+    assert_eq!(written(&sheet_with(&[(1, &[b'7'; 17]), (22, b"x")]), 2048), Err(10));
+    assert_eq!(written(&sheet_with(&[(19, &[1])]), 36), Err(11));
+    assert_eq!(written(&sheet_with(&[(22, &[b'7'; 251])]), 2048), Err(11));
+    assert_eq!(write(&good, &mut vec![0; 36], &[0, 0, 0, 0, 1, 0, 0, 0, 0]), Err(12));
+    assert_eq!(write(&good, &mut vec![0; 36], &[0, 0, 0, 0, 0, 0, 0, 0, 1]), Ok(4));
+}
+
+#[test]
+fn writing_with_all_faults_at_once_gives_them_in_order() {
+    let (set, usage) = ((4, &[1, 0, 1, 0][..]), (5, &[0x10][..]));
+    let item = (22, &[b'7'; 40][..]);
+    let misplaced = build::sheet(&[usage, set, (3, b"DK-1"), (23, b"\x04"), item]);
+    let bad_value = build::sheet(&[(3, b"DK-1"), set, usage, item, (23, b"\x04")]);
+    let clash = build::sheet(&[(3, b"DK-1"), set, usage, item, (23, b"\x03x")]);
+    let large = build::sheet(&[(3, b"DK-1"), set, usage, item]);
+    let fits = build::sheet(&[(3, b"DK-1"), set, usage]);
+    let (mut tag, locked, open) = (vec![0; 64], [1; 16], [0; 16]);
+    assert_eq!(write(&misplaced, &mut tag, &[2; 16]), Err(1));
+    assert_eq!(write(&misplaced, &mut tag, &locked), Err(8));
+    assert_eq!(write(&bad_value, &mut tag, &locked), Err(9));
+    assert_eq!(write(&clash, &mut tag, &locked), Err(10));
+    assert_eq!(write(&large, &mut tag, &locked), Err(11));
+    assert_eq!(write(&fits, &mut tag, &locked), Err(12));
+    // Bytes 0 to 2 on page 0, the CRC on pages 4 and 5, the owner on page 5.
+    assert_eq!(write(&fits, &mut tag, &open), Ok(3));
+}
+
+#[test]
+fn editing_gives_each_refusal() {
+    assert_eq!(EDITING, [1, 3, 4, 5, 6, 7, 13, 2, 9, 10, 11, 12]);
+    for (number, tag) in faulty_tags() {
+        assert_eq!(edited(&tag, 1, b"B1"), Err(number));
+    }
+    let tag = tag_with(&[(3, b"DK-1"), (22, b"x")], 64);
+    let open = locks::open(64);
+    let mut map = open.clone();
+    map[15] = 2;
+    assert_eq!(edit_under(&mut tag.clone(), &map, 1, b"B1", 255), Err(1));
+    assert_eq!(edit_under(&mut tag.clone(), &open[1..], 1, b"B1", 255), Err(1));
+    assert_eq!(edited(&Draft::default().chain(&[&[1]]).tag(64), 1, b"B1"), Err(13));
+    assert_eq!(edit_under(&mut tag.clone(), &open, 1, b"B1", 254), Err(2));
+    assert_eq!(edited(&tag, 1, b"\x7F"), Err(9));
+    assert_eq!(edited(&tag, 23, b"\x02x"), Err(10));
+    assert_eq!(edited(&tag, 1, &[b'7'; 17]), Err(10));
+    assert_eq!(edited(&tag, 22, &[b'7'; 26]), Err(11));
+    assert_eq!(edited(&tag, 22, &[b'7'; 25]).map(|tag| tag[63]), Ok(b'7'));
+    map[15] = 1;
+    assert_eq!(edit_under(&mut tag.clone(), &map, 22, &[b'7'; 25], 255), Err(12));
+    assert_eq!(edit_under(&mut tag.clone(), &map, 22, &[b'7'; 21], 255).map(|(pages, old)| (pages, old)), Ok((7, b"x".to_vec())));
+}
+
+#[test]
+fn editing_with_all_faults_at_once_gives_them_in_order() {
+    let filler = [1];
+    let mut draft = Draft { first: 0x12, ordinal: 2, ..Draft::default() }.owner(&[0, 0, 1]).chain(&[&filler, &[2]]);
+    let break_crc = |mut tag: Vec<u8>| {
+        tag[19] ^= 0xFF;
+        tag
+    };
+    let locked = [1; 16];
+    let bad = |tag: Vec<u8>, room: usize| edit_under(&mut tag.clone(), &locked, 23, b"\x04", room).map(|_| ());
+    let mut met = vec![edit_under(&mut break_crc(draft.tag(64)), &[2; 16], 23, b"\x04", 0).map(|_| ())];
+    met.push(bad(break_crc(draft.tag(64)), 0));
+    draft.first = 0x11;
+    met.push(bad(break_crc(draft.tag(64)), 0));
+    met.push(bad(draft.tag(64), 0));
+    draft.chain.pop();
+    met.push(bad(draft.tag(64), 0));
+    draft.ordinal = 1;
+    met.push(bad(draft.tag(64), 0));
+    draft.owner = b"DK1".to_vec();
+    met.push(bad(draft.tag(64), 0));
+    draft.chain.clear();
+    met.push(bad(draft.tag(64), 0));
+    met.push(bad(draft.tag(64), 255));
+    let mut tag = draft.tag(64);
+    let long = [&[2][..], &[b'x'; 40]].concat();
+    met.push(edit_under(&mut tag, &locked, 23, &long, 255).map(|_| ()));
+    tag = Draft::default().tag(64);
+    met.push(edit_under(&mut tag, &locked, 23, &long, 255).map(|_| ()));
+    met.push(edit_under(&mut tag, &locked, 23, b"\x02x", 255).map(|_| ()));
+    assert_eq!(met, EDITING.map(Err));
+    // The owner on pages 5 and 6, the CRC on pages 4 and 5.
+    assert_eq!(edit_under(&mut tag, &[0; 16], 23, b"\x02x", 255), Ok((3, vec![])));
+}
