@@ -1,31 +1,47 @@
 #!/usr/bin/env python3
 """Every public function has an `ensures` and no `requires`, unless docs/EXCEPTIONS.txt lists it with grounds.
 
-A line of docs/EXCEPTIONS.txt is `crate::function: grounds`; '#' starts a comment. A listed function that needs no exception is an error too.
+A line of docs/EXCEPTIONS.txt is `crate::function: grounds`; '#' starts a comment. A listed function that needs no exception is a fault too.
 """
 import pathlib
 import re
 import sys
 
 ROOT = pathlib.Path(__file__).resolve().parent.parent
-HEAD = re.compile(r'^[ \t]*(?:#\[no_mangle\]\s*)?pub (?:extern "C" )?fn (\w+)', re.M)
+PUBLIC = re.compile(r'\bpub\s+(?:extern\s+"C"\s+)?fn\s+(\w+)')
+CONTRACT = re.compile(r'\s*(requires|ensures)\b[^{]*')
 
 
-def heads(text):
-    """Each public function's name, and its text from the name to the body."""
-    for m in HEAD.finditer(text):
-        body = re.compile(r'^[ \t]*\{\s*$', re.M).search(text, m.end())
-        semi = text.find('\n}\n', m.end())
-        end = min(x for x in (body.start() if body else len(text), semi if semi > 0 else len(text)))
-        yield m.group(1), text[m.end():end]
+def closed(text, at):
+    """The place behind the bracket that closes the one at `at`."""
+    depth = 0
+    for i in range(at, len(text)):
+        depth += {'(': 1, '{': 1, ')': -1, '}': -1}.get(text[i], 0)
+        if depth == 0:
+            return i + 1
+    raise SystemExit(f'statements: a bracket is not closed: {text[at:at + 60]!r}')
+
+
+def clauses(text, at):
+    """The words `requires` and `ensures` of the contract of the function whose name ends at `at`."""
+    at = closed(text, text.index('(', at))
+    found = []
+    result = re.compile(r'\s*->\s*[^{}]*?(?=\s*(?:requires\b|ensures\b|\{))').match(text, at)
+    at = result.end() if result else at
+    while True:
+        clause = CONTRACT.match(text, at)
+        if not clause:
+            return found
+        found.append(clause.group(1))
+        at = closed(text, clause.end())
 
 
 def exceptions():
     path = ROOT / 'docs' / 'EXCEPTIONS.txt'
     if not path.exists():
         return {}
-    lines = (l.split('#')[0].strip() for l in path.read_text(encoding='utf8').splitlines())
-    return dict(l.split(': ', 1) for l in lines if l)
+    lines = (line.split('#')[0].strip() for line in path.read_text(encoding='utf8').splitlines())
+    return dict(line.split(': ', 1) for line in lines if line)
 
 
 def main():
@@ -33,19 +49,17 @@ def main():
     used, wrong, seen = set(), [], 0
     for path in sorted((ROOT / 'crates').glob('*/src/**/*.rt')):
         crate = path.relative_to(ROOT / 'crates').parts[0]
-        for name, head in heads(path.read_text(encoding='utf8')):
+        text = re.sub(r'//[^\n]*', '', path.read_text(encoding='utf8'))
+        for match in PUBLIC.finditer(text):
             seen += 1
-            full = f'{crate}::{name}'
-            bad = []
-            if not re.search(r'\bensures\b', head):
-                bad.append('states no result (no ensures)')
-            if re.search(r'\brequires\b', head):
-                bad.append('has a requires')
+            full = f'{crate}::{match.group(1)}'
+            words = clauses(text, match.end())
+            bad = ([] if 'ensures' in words else ['states no result']) + (['has a requires'] if 'requires' in words else [])
             if bad and full in listed:
                 used.add(full)
             elif bad:
-                wrong.append(f'{full}: {", ".join(bad)}')
-    wrong += [f'{n}: listed in docs/EXCEPTIONS.txt, and needs no exception' for n in sorted(set(listed) - used)]
+                wrong.append(f'{full}: {" and ".join(bad)}')
+    wrong += [f'{name}: listed in docs/EXCEPTIONS.txt, and needs no exception' for name in sorted(set(listed) - used)]
     for line in wrong:
         print(line)
     print(f'{seen} public functions, {len(used)} listed exceptions, {len(wrong)} faults')

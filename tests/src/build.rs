@@ -7,7 +7,7 @@ pub use crate::model::sheet::assemble as sheet;
 /// The bytes that a text of hex digits stands for; blanks and line ends are passed over.
 pub fn hex(digits: &str) -> Vec<u8> {
     let digits: Vec<u8> = digits.bytes().filter(|byte| !byte.is_ascii_whitespace()).collect();
-    assert!(digits.len() % 2 == 0, "half a byte");
+    assert!(digits.len().is_multiple_of(2), "half a byte");
     let value = |digit: u8| char::from(digit).to_digit(16).expect("a hex digit") as u8;
     digits.chunks(2).map(|pair| value(pair[0]) << 4 | value(pair[1])).collect()
 }

@@ -1,26 +1,65 @@
-//! The model's calls as the tests make them. Each checks on the way that a refusal leaves every lent buffer as it
-//! was, and that a buffer which is filled keeps the bytes behind the filled part.
+//! The calls as the tests make them: by the model, and, where the environment variable `URP_DRIVER` names a driver (with
+//! the words that start it), by the library too, whose outcome must be the same to the byte.
+//!
+//! Each call checks on the way that a refusal leaves every lent buffer as it was, and that a buffer which is filled
+//! keeps the bytes behind the filled part.
 
 use crate::build;
+use crate::compare::case::{Call, Case, Outcome};
+use crate::compare::engine::Link;
 use crate::generate::locks;
-use crate::model::{editing, reading, sheet, writing, Content};
+use crate::model::{sheet, Content};
+use std::cell::RefCell;
 
 /// Elements by number, as a test lists them.
 pub type Elements = Vec<(u8, Vec<u8>)>;
+
+thread_local! {
+    /// One driver for each thread of tests.
+    static DRIVER: RefCell<Option<Link>> = RefCell::new(named_driver());
+}
+
+fn named_driver() -> Option<Link> {
+    let words = std::env::var("URP_DRIVER").ok()?;
+    let command: Vec<String> = words.split_whitespace().map(str::to_string).collect();
+    assert!(!command.is_empty(), "URP_DRIVER names no driver");
+    Some(Link::start(&command).expect("the driver that URP_DRIVER names"))
+}
+
+/// What the call leaves behind, or its refusal.
+fn outcome(call: Call) -> Result<Outcome, u32> {
+    let case = Case::new("a call of a test", call);
+    DRIVER.with_borrow_mut(|driver| {
+        if let Some(Err(line)) = driver.as_mut().map(|driver| driver.confirm(&case)) {
+            panic!("{line}");
+        }
+    });
+    match case.expected.answer {
+        0 => Ok(case.expected),
+        number => {
+            assert!(case.expected.buffers == case.call.buffers, "a refusal has changed a buffer");
+            Err(number)
+        }
+    }
+}
 
 /// What stands in a buffer before it is filled: no byte like its neighbour.
 fn unlike_anything(room: usize) -> Vec<u8> {
     (0..room).map(|place| (place * 7) as u8 ^ 0x5A).collect()
 }
 
+/// The filled part of a buffer; the rest is as it was.
+fn filled_part(buffer: &[u8], used: u64) -> Vec<u8> {
+    let (filled, rest) = buffer.split_at(used as usize);
+    assert_eq!(rest, &unlike_anything(buffer.len())[filled.len()..], "bytes behind the filled part have changed");
+    filled.to_vec()
+}
+
 /// The tag's sheet, read into a buffer of this length.
 pub fn read_into(tag: &[u8], room: usize) -> Result<Vec<u8>, u32> {
-    let before = unlike_anything(room);
-    let mut buffer = before.clone();
-    let answer = reading(tag, &mut buffer);
-    let used = answer.unwrap_or(0);
-    assert_eq!(buffer[used..], before[used..], "bytes behind the sheet have changed");
-    answer.map(|used| buffer[..used].to_vec())
+    let done = outcome(Call::read(tag.to_vec(), unlike_anything(room)))?;
+    assert_eq!(done.buffers[0], tag, "a tag that was read has changed");
+    Ok(filled_part(&done.buffers[1], done.results[0]))
 }
 
 /// The tag's sheet.
@@ -48,10 +87,9 @@ pub fn only(number: u8, value: &[u8]) -> Result<Elements, u32> {
 
 /// Writes the sheet onto the tag.
 pub fn write(sheet: &[u8], tag: &mut Vec<u8>, locks: &[u8]) -> Result<usize, u32> {
-    let before = tag.clone();
-    let answer = writing(sheet, tag, locks);
-    assert!(answer.is_ok() || *tag == before, "a refused tag has changed");
-    answer
+    let mut done = outcome(Call::write(sheet.to_vec(), tag.clone(), locks.to_vec()))?;
+    *tag = done.buffers.swap_remove(1);
+    Ok(done.results[0] as usize)
 }
 
 /// The tag of this length that writing makes of nothing but 00.
@@ -61,14 +99,18 @@ pub fn written(sheet: &[u8], length: usize) -> Result<Vec<u8>, u32> {
 }
 
 /// Edits the tag: the page count and the old element.
-pub fn edit_under(tag: &mut Vec<u8>, locks: &[u8], number: u32, value: &[u8], room: usize) -> Result<(usize, Vec<u8>), u32> {
-    let (tag_before, old_before) = (tag.clone(), unlike_anything(room));
-    let mut old = old_before.clone();
-    let answer = editing(tag, locks, number, value, &mut old);
-    let used = answer.map_or(0, |edited| edited.old_length);
-    assert!(answer.is_ok() || *tag == tag_before, "a refused tag has changed");
-    assert_eq!(old[used..], old_before[used..], "bytes behind the old element have changed");
-    answer.map(|edited| (edited.pages, old[..used].to_vec()))
+pub fn edit_under(
+    tag: &mut Vec<u8>,
+    locks: &[u8],
+    number: u32,
+    value: &[u8],
+    room: usize,
+) -> Result<(usize, Vec<u8>), u32> {
+    let call = Call::edit(tag.clone(), locks.to_vec(), number, value.to_vec(), unlike_anything(room));
+    let mut done = outcome(call)?;
+    *tag = done.buffers.swap_remove(0);
+    // The last buffer has taken the first one's place.
+    Ok((done.results[0] as usize, filled_part(&done.buffers[0], done.results[1])))
 }
 
 /// Edits the tag with all pages open and room enough.

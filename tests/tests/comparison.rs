@@ -44,7 +44,8 @@ fn a_program_that_stops_or_prints_otherwise_is_seen() {
 #[test]
 fn the_shortest_case_that_differs_is_told_and_so_is_a_refusal_that_was_not_met() {
     let lengths = [100, 85, 120, 84];
-    let cases = || lengths.map(|room| Case::new("test", Call::read(b2().tag, vec![0; room]))).into_iter().collect::<Vec<_>>();
+    let cases =
+        || lengths.map(|room| Case::new("test", Call::read(b2().tag, vec![0; room]))).into_iter().collect::<Vec<_>>();
     let right: Vec<Vec<u8>> = cases().iter().map(|case| case.expected.frame()).collect();
     let judged = |frames: &[Vec<u8>], to_be_met: Vec<u32>| {
         collect([cases()], &frames.concat()[..]).and_then(|report| report.judged("test", 1, to_be_met))
@@ -55,7 +56,12 @@ fn the_shortest_case_that_differs_is_told_and_so_is_a_refusal_that_was_not_met()
     wrong[0][0] = 5;
     *wrong[1].last_mut().unwrap() ^= 1;
     let line = judged(&wrong, vec![2]).unwrap_err();
-    assert!(line.starts_with("test: 2 of 4 cases differ, the shortest: byte 84 of sheet is 62 instead of 63 at read tag=1101"), "{line}");
+    assert!(
+        line.starts_with(
+            "test: 2 of 4 cases differ, the shortest: byte 84 of sheet is 62 instead of 63 at read tag=1101"
+        ),
+        "{line}"
+    );
     assert!(line.ends_with(" sheet[85]"), "{line}");
     assert!(judged(&right[..3], vec![2]).unwrap_err().ends_with(" sheet[84]"), "the case without an outcome");
 }
@@ -71,7 +77,13 @@ fn every_changed_byte_of_an_outcome_is_named() {
     for place in 0..right.len() {
         let mut got = right.clone();
         got[place] ^= 1;
-        named.insert(case.difference(&got).split_whitespace().filter(|word| word.parse::<u8>().is_err()).take(4).collect::<String>());
+        named.insert(
+            case.difference(&got)
+                .split_whitespace()
+                .filter(|word| word.parse::<u8>().is_err())
+                .take(4)
+                .collect::<String>(),
+        );
     }
     for name in ["pages", "old_used", "tag", "locks", "value", "old"] {
         assert!(named.contains(&format!("bytesbefore{name}have")), "{named:?}");
@@ -94,7 +106,8 @@ fn outcomes_are_those_of_document_01() {
 fn fixed_cases_alone_meet_every_refusal_of_reading() {
     let met: BTreeSet<u32> = read_cases::all(1, 0).map(|case| case.expected.answer).collect();
     assert!(Subject::Read.to_be_met().iter().all(|number| met.contains(number)), "{met:?}");
-    let listed: BTreeSet<String> = taglist::fixed().iter().map(|tag| listing(tag).lines().next().unwrap().to_string()).collect();
+    let listed: BTreeSet<String> =
+        taglist::fixed().iter().map(|tag| listing(tag).lines().next().unwrap().to_string()).collect();
     for number in [1, 3, 4, 5, 6, 7] {
         assert!(listed.contains(&format!("refused {number}")), "{listed:?}");
     }

@@ -2,6 +2,7 @@
 
 use independent::build::hex;
 use independent::generate::{edits, locks, sheets, tags};
+use independent::model::block_one::BlockOne;
 use independent::model::refusal::{EDITING, OFFSET, READING, WRITING};
 use independent::model::{chain, editing, element, pages, reading, sheet, writing};
 use independent::random::Random;
@@ -17,7 +18,7 @@ fn all_met(met: &BTreeMap<u32, usize>, order: &[u32], least: usize) {
 #[test]
 fn the_generator_of_numbers_is_splitmix64() {
     let mut random = Random::new(1_234_567);
-    let first: Vec<u64> = (0..3).map(|_| random.next()).collect();
+    let first: Vec<u64> = (0..3).map(|_| random.number()).collect();
     assert_eq!(first, [6457827717110365317, 3203168211198807973, 9817491932198370423]);
 }
 
@@ -78,7 +79,8 @@ fn contents_reach_the_edges() {
         let length = tags::length(&mut random);
         let content = sheets::content(&mut random, length);
         identifiers.insert(content.get(element::PRIMARY).len());
-        let large = writing(&sheet::of_content(&content).unwrap(), &mut vec![0; length], &locks::open(length)) == Err(11);
+        let large =
+            writing(&sheet::of_content(&content).unwrap(), &mut vec![0; length], &locks::open(length)) == Err(11);
         let carried: usize = content.carried.iter().map(Vec::len).sum();
         if content.get(element::MEDIA).is_empty() && content.get(element::OTHER_ITEM).len() > 240 {
             block_ones.insert((content.get(element::OTHER_ITEM).len(), large));
@@ -97,20 +99,39 @@ fn contents_reach_the_edges() {
     assert_eq!(most, 671, "blocks of 3 bytes on 2,048");
 }
 
+/// Which of the ways to be loose a tag shows.
+fn ways_to_be_loose(tag: &[u8]) -> Vec<&'static str> {
+    let Ok(content) = reading::content_of(tag) else { return Vec::new() };
+    let blocks = chain::blocks(tag).unwrap();
+    let one =
+        blocks.iter().find(|block| chain::id(block) == 1).and_then(|block| BlockOne::read(block)).unwrap_or_default();
+    let used = 34 + blocks.iter().map(|block| block.len()).sum::<usize>();
+    let rest = tag.get(used..).unwrap_or(&[]);
+    let isil = content.get(element::ISIL);
+    let ways = [
+        ("filler", tag.get(34) == Some(&1)),
+        ("block 1 not first", blocks.iter().skip(1).any(|block| chain::id(block) == 1)),
+        ("bytes behind the end", rest.first() == Some(&0) && rest.iter().any(|byte| *byte != 0)),
+        ("two bytes before 01, 02, 03", (1..=3).contains(&tag[23]) && tag[21..23] != [0, 0]),
+        ("short marked item", tag[3] == 1 && one.item.len() <= 16),
+        ("basic owner in block 1", tag[23] == 1 && isil.get(2) == Some(&b'-')),
+        ("usage byte with sub qualifier 0", one.usage != 0 && one.usage & 15 == 0),
+        ("trailing 00 in block 1", blocks.iter().any(|block| chain::id(block) == 1 && block.last() == Some(&0))),
+    ];
+    ways.into_iter().filter(|(_, seen)| *seen).map(|(way, _)| way).collect()
+}
+
 #[test]
 fn loose_tags_are_loose_in_every_way() {
     let mut random = Random::new(26);
-    let (mut fillers, mut not_first, mut behind_end, mut before_marker) = (0, 0, 0, 0);
+    let mut met: BTreeMap<&str, usize> = BTreeMap::new();
     for _ in 0..5000 {
-        let tag = tags::loose(&mut random);
-        let Ok(blocks) = chain::blocks(&tag) else { continue };
-        fillers += usize::from(tag.get(34) == Some(&1));
-        not_first += usize::from(blocks.iter().skip(1).any(|block| chain::id(block) == 1));
-        let used = 34 + blocks.iter().map(|block| block.len()).sum::<usize>();
-        behind_end += usize::from(tag.get(used..).is_some_and(|rest| rest.first() == Some(&0) && rest.iter().any(|byte| *byte != 0)));
-        before_marker += usize::from((1..=3).contains(&tag[23]) && tag[21..23] != [0, 0]);
+        for way in ways_to_be_loose(&tags::loose(&mut random)) {
+            *met.entry(way).or_default() += 1;
+        }
     }
-    assert!([fillers, not_first, behind_end, before_marker].iter().all(|times| *times > 100));
+    assert!(met.len() == 8 && met.values().all(|times| *times > 100), "{met:?}");
+    assert_eq!(ways_to_be_loose(&tags::own(&mut random)), Vec::<&str>::new());
 }
 
 #[test]

@@ -162,7 +162,7 @@ fn reading_09_the_third_byte_of_the_owner_field_chooses_its_form() {
     assert_eq!(with(b"\0\0\x03x y"), only(23, b"\x03x y"));
     assert_eq!(with(b"\0\0\x02x\0y"), Err(6), "text behind a 00");
     assert_eq!(with(b"\0\0\x04x"), Err(6), "no form begins 04");
-    assert_eq!(with(b"DK1\02"), Err(6));
+    assert_eq!(with(b"DK1\0x"), Err(6));
     assert_eq!(with(b"DK1_"), Err(6), "no unit character");
     assert_eq!(with(b"dK1"), Err(6));
     let marked = |owner: &[u8]| besides(&Draft::default().owner(owner).chain(&[&owner_beyond(b"ABC-1")]).tag(64));

@@ -47,7 +47,11 @@ fn reading_15_least_lengths_by_id() {
     for id in 0..=u16::MAX {
         let [low, high] = id.to_le_bytes();
         let three = [3, low, high];
-        assert_eq!(besides(&chained(&[&three])), if id > 100 { carried(&[&three]) } else { Err(5) }, "3 bytes, ID {id}");
+        assert_eq!(
+            besides(&chained(&[&three])),
+            if id > 100 { carried(&[&three]) } else { Err(5) },
+            "3 bytes, ID {id}"
+        );
         let four = [4, low, high, 4 ^ low ^ high];
         let right = match id {
             0 => Err(5),
@@ -127,7 +131,9 @@ fn reading_20_fields_of_block_1_are_judged_whether_or_not_a_marker_stands() {
     for (marked, owner) in [(true, &[0, 0, 1][..]), (false, &[])] {
         let good = if marked { only(3, b"ABC-1") } else { Err(7) };
         assert_eq!(besides(&fields(b"", owner, b"\0\0ABC-1")), good);
-        for bad in [&b"\0\0ABC"[..], b"\0\0abc-1", b"\0\0ABCDE-1", b"\0\0ABC-123456789012", b"\0\0\x02", b"\0\0\x03\x1F"] {
+        for bad in
+            [&b"\0\0ABC"[..], b"\0\0abc-1", b"\0\0ABCDE-1", b"\0\0ABC-123456789012", b"\0\0\x02", b"\0\0\x03\x1F"]
+        {
             assert_eq!(besides(&fields(b"", owner, bad)), Err(6), "{bad:?}");
         }
     }

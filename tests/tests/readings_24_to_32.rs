@@ -74,7 +74,9 @@ fn reading_26_every_offset_is_the_running_place_and_none_wraps() {
 #[test]
 fn reading_27_a_carried_value_is_one_whole_well_formed_block() {
     let carry = |value: &[u8]| written(&sheet_with(&[(255, value)]), 64).map(|tag| tag[34..34 + value.len()].to_vec());
-    for good in [block(2, b""), block(100, b"abc"), block(101, b""), block(256, b"x"), block(257, b"x"), block(65535, b"")] {
+    for good in
+        [block(2, b""), block(100, b"abc"), block(101, b""), block(256, b"x"), block(257, b"x"), block(65535, b"")]
+    {
         assert_eq!(carry(&good), Ok(good));
     }
     let two_blocks = [block(101, b""), block(102, b"")].concat();
@@ -108,7 +110,19 @@ fn reading_28_forms_of_set_information_isil_and_text() {
     for good in [&b"A-1"[..], b"ABCD-12345678901", b"DK-a-b-c", b"DK--", b"DK---", b"OCLC-Zz/:-09"] {
         assert_eq!(isil(good), only(3, good), "the first hyphen ends the prefix");
     }
-    for bad in [&b"-1"[..], b"ABCDE-1", b"DK-", b"DK-123456789012", b"DK1", b"dk-1", b"D1-1", b"DK -1", b"DK-1 ", b"DK-1_2", b"DK-\xE5"] {
+    for bad in [
+        &b"-1"[..],
+        b"ABCDE-1",
+        b"DK-",
+        b"DK-123456789012",
+        b"DK1",
+        b"dk-1",
+        b"D1-1",
+        b"DK -1",
+        b"DK-1 ",
+        b"DK-1_2",
+        b"DK-\xE5",
+    ] {
         assert_eq!(isil(bad), Err(9), "{bad:?}");
     }
     let item = |value: &[u8]| besides(&written(&sheet_with(&[(1, value)]), 64)?);
@@ -166,9 +180,7 @@ fn reading_31_block_1_has_at_most_255_bytes() {
     for number in [1, 22] {
         assert_eq!([item(number, 249), item(number, 250), item(number, 251)], [Ok(254), Ok(255), Err(11)]);
     }
-    let with_usage = |length: usize| {
-        length_of_block_one(&build::sheet(&[SET, (5, &[0x11]), (22, &text[..length])]))
-    };
+    let with_usage = |length: usize| length_of_block_one(&build::sheet(&[SET, (5, &[0x11]), (22, &text[..length])]));
     assert_eq!([with_usage(246), with_usage(247), with_usage(248)], [Ok(254), Ok(255), Err(11)]);
     let owner = |length: usize| length_of_block_one(&sheet_with(&[(23, &[&[2], &text[..length]].concat())]));
     assert_eq!([owner(247), owner(248), owner(249)], [Ok(254), Ok(255), Err(11)]);

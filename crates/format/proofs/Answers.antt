@@ -4,7 +4,7 @@ use mathlib.Core.Logic.{_⊎_, inl, inr}
 use Prim.Native.Nat.{ℕ, zero, suc}
 use mathlib.Core.Bool.{Bool, true, false}
 use mathlib.Core.List.{List, [], _∷_, _++_}
-use Rattle.format.specs.Answers.{Answer, Refusal, plain, got, refused, Step, need, inOrder, afterwards, andThen, orElse, passed}
+use Rattle.format.specs.Answers.{Answer, Refusal, plain, got, refused, Step, need, inOrder, Passed, none, more, FirstRefusal, here, later, afterwards, andThen, orElse, passed}
 use Rattle.format.proofs.Tests.{never}
 
 -- (`cc` says it too, but computes all that is in reach: name it where much is)
@@ -110,16 +110,6 @@ in-order-append (got u ∷ ss) rs a = in-order-append ss rs a
 in-order-append (refused x ∷ ss) rs a = refl
 
 -- ---- when a call refuses, and when it does its work
-
--- every step is passed
-pub data Passed : List Step → Type 0 where
-  none : Passed []
-  more : {ss : List Step} → Passed ss → Passed (got tt ∷ ss)
-
--- the first step that refuses does so with x; those before it are passed
-pub data FirstRefusal (x : Refusal) : List Step → Type 0 where
-  here : {ss : List Step} → FirstRefusal x (refused x ∷ ss)
-  later : {ss : List Step} → FirstRefusal x ss → FirstRefusal x (got tt ∷ ss)
 
 -- A call refuses with x exactly when a step refuses with x and no earlier one refuses.
 pub refuses : {A : Type 0} (x : Refusal) (ss : List Step) (a : A) → FirstRefusal x ss → inOrder ss a ≡ refused x

@@ -12,12 +12,12 @@ use Rattle.format.specs.Bytes.{filled}
 use Rattle.format.specs.Pages.{goodSize, lockMap, changed, lockedChanged}
 use Rattle.format.specs.Elements.{Content, known, el, put, value, sound}
 use Rattle.format.specs.Layout.{image, fits}
-use Rattle.format.specs.Reading.{contentIn, tagSteps}
+use Rattle.format.specs.Reading.{contentIn, tagSteps, Readable}
 use Rattle.format.specs.Calls.{ownLayout, layingSteps, editSteps, Edited, EditOutcome, editing}
 use Rattle.format.specs.History.{Own}
 use Rattle.format.proofs.Tests.{and-l, and-r, and-i}
 use Rattle.format.proofs.Answers.{next-ok, next-inv, got-inj, afterwards-got}
-use Rattle.format.proofs.Readable.{Readable, readable-on, on-readable}
+use Rattle.format.proofs.Readable.{readable-on, on-readable}
 use Rattle.format.proofs.Slots.{sound-parts, value-of, put-sound, got-back, put-back, put-same}
 use Rattle.format.proofs.Paging.{changed-sym, changed-self, locked-sym, locked-self}
 use Rattle.format.proofs.Laying.{Laid, laid-on, on-laid, laid-length, laid-own, own-read, own-layout}
@@ -35,7 +35,7 @@ module _ (p : ℕ) (t locks : List ℕ) (n : ℕ) (s buffer : List ℕ) (r : Edi
       let old : List ℕ = el (contentIn t) n in
       ap₂ take h (afterwards-got _ r (filled old buffer) buffer e) ∙ take-append-seam old (drop (length old) buffer)
 
--- an edit of the elements c on their own layout t is accepted
+-- an edit of the elements c on tag t passes the steps behind 7
 pub record Accepted (p : ℕ) (locks t : List ℕ) (c : Content) (n : ℕ) (s : List ℕ) (room : ℕ) : Type 0 where
   pub sized : goodSize p (length t) && lockMap p locks (length t) ≡ true
   pub roomy : 255 ≤ room
@@ -45,6 +45,27 @@ pub record Accepted (p : ℕ) (locks t : List ℕ) (c : Content) (n : ℕ) (s : 
 
 abbrev pub given : ℕ → List ℕ → Content → ℕ → List ℕ → Edited
 given p t c n s = record { pages = changed p t (image (length t) (put c n s)); old = length (el c n) }
+
+pub edit-steps : (p : ℕ) (t locks : List ℕ) (n : ℕ) (s buffer : List ℕ) (r : Edited) → editing p t locks n s buffer .answer ≡ got r
+    → Accepted p locks t (contentIn t) n s (length buffer) × (given p t (contentIn t) n s ≡ r)
+unfolding editing editSteps
+edit-steps p t locks n s buffer r e =
+    let v : Edited = given p t (contentIn t) n s in
+    let a = next-inv _ _ _ v r e in
+    let b = on-readable t _ v r (a .1) in
+    let d = next-inv _ _ _ v r (b .1) in
+    let f = next-inv _ _ _ v r (d .1) in
+    let g = next-inv _ _ _ v r (f .1) in
+    let h = on-laid p locks t (put (contentIn t) n s) v r (g .1) in (
+      record {
+        sized = a .0;
+        roomy = leb-true 255 (length buffer) (f .0);
+        named = and-l (known n) (value n s) (g .0);
+        valued = and-r (known n) (value n s) (g .0);
+        laid = h .0;
+      },
+      h .1,
+    )
 
 module _ (p : ℕ) (locks t : List ℕ) (c : Content) (o : Own c t) (n : ℕ) (s buffer : List ℕ) where
   pub edit-accepted : Accepted p locks t c n s (length buffer) → editing p t locks n s buffer .answer ≡ got (given p t c n s)
@@ -58,25 +79,10 @@ module _ (p : ℕ) (locks t : List ℕ) (c : Content) (o : Own c t) (n : ℕ) (s
       ∙ next-ok _ _ _ v (and-i (a .named) (a .valued)) ∙ laid-on p locks t (put (contentIn t) n s) v (rw ci (a .laid)) ∙ ap (λ (x : Content). got (given p t x n s)) ci
 
   pub accepted-edit : (r : Edited) → editing p t locks n s buffer .answer ≡ got r → Accepted p locks t c n s (length buffer) × (given p t c n s ≡ r)
-  unfolding editing editSteps
   accepted-edit r e =
-      let v : Edited = given p t (contentIn t) n s in
-      let a = next-inv _ _ _ v r e in
-      let ci : contentIn t ≡ c = own-read p c t (and-l (goodSize p (length t)) (lockMap p locks (length t)) (a .0)) o .1 in
-      let b = on-readable t _ v r (a .1) in
-      let d = next-inv _ _ _ v r (b .1) in
-      let f = next-inv _ _ _ v r (d .1) in
-      let g = next-inv _ _ _ v r (f .1) in
-      let h = on-laid p locks t (put (contentIn t) n s) v r (g .1) in (
-        record {
-          sized = a .0;
-          roomy = leb-true 255 (length buffer) (f .0);
-          named = and-l (known n) (value n s) (g .0);
-          valued = and-r (known n) (value n s) (g .0);
-          laid = rw ci at (h .0);
-        },
-        sym (ap (λ (x : Content). given p t x n s) ci) ∙ h .1,
-      )
+      let a = edit-steps p t locks n s buffer r e in
+      let ci : contentIn t ≡ c = own-read p c t (and-l (goodSize p (length t)) (lockMap p locks (length t)) (a .0 .sized)) o .1 in
+      (rw ci at (a .0), sym (ap (λ (x : Content). given p t x n s) ci) ∙ a .1)
 
 -- ---- after an accepted edit
 

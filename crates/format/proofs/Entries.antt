@@ -12,10 +12,10 @@ use borrow.Author.Tests.{eqb-true, eq-eqb, ne-eqb, eqb-false, ltb-true, lt-ltb, 
 use Rattle.format.specs.Bytes.{if_then_else_, isEmpty, all, between, upTo, past}
 use Rattle.format.specs.Fields.{text, isilOf, isil, alternative}
 use Rattle.format.specs.Chain.{wellFormed, carriable}
-use Rattle.format.specs.Elements.{Content, numbers, partsOf, required, setInfo, shape, form, value, valuesAt, clash, sound}
+use Rattle.format.specs.Elements.{Content, numbers, required, setInfo, shape, form, value, valuesAt, clash, sound}
 use Rattle.format.specs.Sheet.{Entry, risingFrom, rising, find, carriedIn, contentOf, formed, present, goodValues, entriesAt, carriedEntries, entries}
 use Rattle.format.proofs.Tests.{never, and-l, and-r, and-i, not-t, or-inv, or-l, or-r, all-mono}
-use Rattle.format.proofs.Values.{value-set}
+use Rattle.format.proofs.Values.{required-shape}
 use Rattle.format.proofs.Slots.{values-length, values-at, Sound, sound-parts, parts-sound}
 
 -- ---- what a form says of its number and of its bytes
@@ -245,15 +245,16 @@ values-sound es g k =
     let v = values-parts es g in
     parts-sound (contentOf es) (record { values = find-values numbers es (v .0) (v .1); blocks = carried-forms es (v .0); clear = k })
 
--- more than 255 parts are no value
-pub wide-parts : (es : List Entry) → 255 < partsOf (find 4 es) → goodValues es ≡ false
-wide-parts es w = go (goodValues es) refl
+-- a bad element 4 is no good value
+pub bad-set : (es : List Entry) → setInfo (find 4 es) ≡ false → goodValues es ≡ false
+unfolding shape
+bad-set es bad = go (goodValues es) refl
   where
     go : (t : Bool) → goodValues es ≡ t → t ≡ false
     go true g =
         let v = values-parts es g in
-        let p : present es 4 ≡ true = numbers-at (present es) (v .1) in
-        absurd (omega (arith, value-set (find 4 es) (find-value 4 es (v .0) p) .parts))
+        let s : setInfo (find 4 es) ≡ true = required-shape 4 (find 4 es) refl (find-value 4 es (v .0) (numbers-at (present es) (v .1))) in
+        never (cc)
     go false g = refl
 
 -- ---- the other way: the entries of a sound content have good values, and give the content back

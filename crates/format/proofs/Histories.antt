@@ -9,7 +9,7 @@ use Rattle.format.specs.Elements.{Content, el, put}
 use Rattle.format.specs.Layout.{image}
 use Rattle.format.specs.Reading.{contentIn}
 use Rattle.format.specs.Calls.{Edited, EditOutcome, editing}
-use Rattle.format.specs.History.{Own, Edit, Undo, State, call, noted, edited, run, Back, Undone}
+use Rattle.format.specs.History.{Own, Edit, Undo, State, begin, call, noted, edited, run, Back, Undone}
 use Rattle.format.proofs.Tests.{and-l}
 use Rattle.format.proofs.Refusals.{edit-unchanged}
 use Rattle.format.proofs.Laying.{laid-kept, laid-length, own-read}
@@ -74,9 +74,6 @@ module _ (p : ℕ) (locks : List ℕ) where
   unfolding run
   history start st [] g = g
   history start st (e ∷ es) g = history start (edited p locks st e) es (edited-good start st e g)
-
-  abbrev pub begin : List ℕ → Content → State
-  begin t c = record { tag = t; content = c; kept = [] }
 
   pub begun : (t : List ℕ) (c : Content) → Own c t → Good t (begin t c)
   unfolding Undone

@@ -11,14 +11,13 @@ use Rattle.format.specs.Bytes.{all, same}
 use Rattle.format.specs.Pages.{goodSize, lockMap, changed, lockedChanged, openPages, Kept}
 use Rattle.format.specs.Elements.{Content, clash, sound}
 use Rattle.format.specs.Layout.{image, fits}
-use Rattle.format.specs.Reading.{contentIn}
+use Rattle.format.specs.Reading.{contentIn, Readable}
 use Rattle.format.specs.Calls.{layingSteps, ownLayout}
 use Rattle.format.specs.History.{Own}
 use Rattle.format.proofs.Tests.{and-l, and-r, and-i, not-t, same-refl, same-eq}
 use Rattle.format.proofs.Answers.{next-ok, next-inv, none-ok, none-inv}
 use Rattle.format.proofs.Slots.{sound-parts}
 use Rattle.format.proofs.Layouts.{image-length, read-back}
-use Rattle.format.proofs.Readable.{Readable}
 use Rattle.format.proofs.Paging.{locked-kept, changed-open}
 
 -- elements c may be laid down on tag t

@@ -17,7 +17,7 @@ use Rattle.format.specs.Fields.{text, isOwner, marker, hyphen, marked, l
 use Rattle.format.specs.Chain.{Library, chain, libraryBlock, otherBlocks, libraryIn, goodLibrary, blockOne}
 use Rattle.format.specs.Elements.{Content, el, setBytes, shape, sound}
 use Rattle.format.specs.Layout.{ownerWidth, ownerOf, usageOf, library, firstByte, front, basic, laidOut, image, fits}
-use Rattle.format.specs.Reading.{mainUsage, itemIn, ownerIn, walked, blocksIn, libraryOn, goodFields, agree, ownerOn, contentIn}
+use Rattle.format.specs.Reading.{mainUsage, itemIn, ownerIn, walked, blocksIn, libraryOn, goodFields, agree, ownerOn, contentIn, Readable}
 use Rattle.format.proofs.Tests.{and-l, and-r, and-i, or-inv, same-refl}
 use Rattle.format.proofs.Answers.{or-else-got}
 use Rattle.format.proofs.Strings.{nil-of, le16-length, length-pad}
@@ -25,7 +25,6 @@ use Rattle.format.proofs.Blocks.{Laid, chain-laid, library-back, librar
 use Rattle.format.proofs.Fields.{text-solid, item-back, spoken, owner-back}
 use Rattle.format.proofs.Slots.{Facts, sound-facts}
 use Rattle.format.proofs.Values.{value-text, value-isil, value-alternative, value-usage, value-media, SetInfo, value-set, item-content, item-agrees, owner-content, owner-either, Placed, owner-placed, usage-content, usage-agrees}
-use Rattle.format.proofs.Readable.{Readable}
 
 -- ---- a tag that is laid down part by part, cut as the reader cuts it
 

@@ -1,6 +1,7 @@
 pub mod Tests
 pub mod Answers
 pub mod Strings
+pub mod Pieces
 pub mod Xor
 pub mod Crc
 pub mod Paging

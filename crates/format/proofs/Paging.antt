@@ -9,7 +9,7 @@ use lib.Dec.{eqb, ltb, leb}
 use lib.ListN.{length, getD}
 use borrow.Author.Tests.{eqb-true, ltb-true, ltb-false, eq-eqb}
 use Rattle.format.specs.Bytes.{if_then_else_, same, part, all}
-use Rattle.format.specs.Pages.{locked, differs, count, changed, lockedChanged, openPages, lockMap, Kept}
+use Rattle.format.specs.Pages.{locked, differs, lockedDiffers, count, changed, lockedChanged, openPages, lockMap, Kept}
 use Rattle.format.proofs.Tests.{never, and-no, not-f, same-sym, same-refl, same-eq}
 
 pub count-ext : (f g : ℕ → Bool) → ((i : ℕ) → f i ≡ g i) → (n : ℕ) → count f n ≡ count g n
@@ -25,12 +25,15 @@ pub changed-sym : (p : ℕ) (a b : List ℕ) → length a ≡ length b → chang
 unfolding changed
 changed-sym p a b e = count-ext (differs p a b) (differs p b a) (differs-sym p a b) (length a / p) ∙ ap (λ (n : ℕ). count (differs p b a) (n / p)) e
 
+locked-differs-sym : (p : ℕ) (l a b : List ℕ) (i : ℕ) → lockedDiffers p l a b i ≡ lockedDiffers p l b a i
+unfolding lockedDiffers
+locked-differs-sym p l a b i = rw (differs-sym p a b i)
+
 pub locked-sym : (p : ℕ) (l a b : List ℕ) → length a ≡ length b → lockedChanged p l a b ≡ lockedChanged p l b a
 unfolding lockedChanged
 locked-sym p l a b e =
-    count-ext (λ i. locked l i && differs p a b i) (λ i. locked l i && differs p b a i)
-    (λ i. ap (λ (x : Bool). locked l i && x) (differs-sym p a b i)) (length a / p)
-    ∙ ap (λ (n : ℕ). count (λ i. locked l i && differs p b a i) (n / p)) e
+    count-ext (lockedDiffers p l a b) (lockedDiffers p l b a) (locked-differs-sym p l a b) (length a / p)
+    ∙ ap (λ (n : ℕ). count (lockedDiffers p l b a) (n / p)) e
 
 -- a count is 0 exactly where the test fails at each
 pub count-zero : (f : ℕ → Bool) (n : ℕ) → count f n ≡ 0 → (i : ℕ) → i < n → f i ≡ false
@@ -48,9 +51,9 @@ count-zero f (suc n) e i h = go (f n) refl e (λ k l. count-zero f n k i l)
 
 -- no locked page differs
 pub locked-kept : (p : ℕ) (l a b : List ℕ) → lockedChanged p l a b ≡ 0 → Kept p l a b
-unfolding lockedChanged differs Kept
+unfolding lockedChanged lockedDiffers differs Kept
 locked-kept p l a b e i h k =
-    let f : locked l i && differs p a b i ≡ false = count-zero (λ j. locked l j && differs p a b j) (length a / p) e i h in
+    let f : locked l i && differs p a b i ≡ false = count-zero (lockedDiffers p l a b) (length a / p) e i h in
     same-eq _ _ (not-f (same (part (i * p) p a) (part (i * p) p b)) (rw k at f))
 
 pub kept-trans : (p : ℕ) (l a b c : List ℕ) → length a ≡ length b → Kept p l a b → Kept p l b c → Kept p l a c
@@ -88,15 +91,15 @@ unfolding changed
 changed-self p a = zero-count (differs p a a) (length a / p) (λ i h. differs-self p a i)
 
 pub locked-self : (p : ℕ) (l a : List ℕ) → lockedChanged p l a a ≡ 0
-unfolding lockedChanged
-locked-self p l a = zero-count (λ i. locked l i && differs p a a i) (length a / p) (λ i h. and-no (locked l i) (differs p a a i) (differs-self p a i))
+unfolding lockedChanged lockedDiffers
+locked-self p l a = zero-count (lockedDiffers p l a a) (length a / p) (λ i h. and-no (locked l i) (differs p a a i) (differs-self p a i))
 
 -- the pages that change are among the open ones
 pub changed-open : (p : ℕ) (l a b : List ℕ) → length l ≡ length a / p → lockedChanged p l a b ≡ 0 → changed p a b ≤ openPages l
-unfolding changed lockedChanged openPages
+unfolding changed lockedChanged lockedDiffers openPages
 changed-open p l a b n e =
     rw n (count-le (differs p a b) (λ i. not (locked l i)) (length a / p)
-    (λ i h d. open-of (locked l i) (differs p a b i) d (count-zero (λ j. locked l j && differs p a b j) (length a / p) e i h)))
+    (λ i h d. open-of (locked l i) (differs p a b i) d (count-zero (lockedDiffers p l a b) (length a / p) e i h)))
   where
     open-of : (x y : Bool) → y ≡ true → x && y ≡ false → not x ≡ true
     open-of true y d z = never (cc)

@@ -1,13 +1,13 @@
 -- Two tables of worked examples, each under a single statement that is computed: the pairs that document 01 marks P, and the whole case
 -- with the published examples B.1 and B.2 of the standard, each read and written.
-use Prim.Native.Nat.{ℕ, zero, suc, _+_, _%_, _/_}
+use Prim.Native.Nat.{ℕ, zero, suc, _+_, _-_, _%_, _/_}
 use mathlib.Core.Bool.{Bool, true, false, not, _&&_, _||_}
 use mathlib.Core.List.{List, [], _∷_, _++_}
 use lib.ListN.{length, replicate, take}
 use lib.Dec.{T, eqb}
 use Rattle.format.specs.Answers.{Answer, plain, got, refused, need, inOrder, afterwards, andThen, orElse, passed}
 use Rattle.format.specs.Bytes.{all, same, le16, word, padWith, trim, strip, upTo, past, xorAll, joined}
-use Rattle.format.specs.Pages.{pageSize, goodSize, lockMap, differs, count, changed, lockedChanged}
+use Rattle.format.specs.Pages.{pageSize, goodSize, lockMap, differs, lockedDiffers, count, changed, lockedChanged}
 use Rattle.format.specs.Crc.{crcBit, crcBits, crcByte, crcFrom, crc, covered}
 use Rattle.format.specs.Fields.{textByte, text, capital, unitByte, isilOf, isil, alternative, isOwner, goodItem, prefixIn, ownerSaid, goodOwner, itemField, packed, basicOwner, ownerField}
 use Rattle.format.specs.Chain.{wellFormed, carriable, walk, chain, libraryBlock, otherBlocks, payload, lastField, libraryIn, goodLibrary, libraryBytes, sealed, blockOne}
@@ -36,16 +36,16 @@ isSheetOf s t =
     let r = reading pageSize t (zeros (length s)) in
     let w = writing pageSize s (zeros (length t)) (zeros (length t / pageSize)) in
     gives (r .answer) (length s) && same (r .sheet) s && same (w .tag) t && gives (w .answer) (changed pageSize (zeros (length t)) t)
-    && refuses (reading pageSize t (zeros 20) .answer) 2
+    && refuses (reading pageSize t (zeros (length s - 1)) .answer) 2
 
 -- ---- the pairs marked P
 
 digits : List ℕ
 digits = 0x31 ∷ 0x32 ∷ 0x33 ∷ 0x34 ∷ 0x35 ∷ 0x36 ∷ 0x37 ∷ 0x38 ∷ 0x39 ∷ []
 
--- elements 4 (parts and ordinal equal) and 5
-setSheet : ℕ → ℕ → List ℕ
-setSheet low high = 2 ∷ 0 ∷ 4 ∷ 10 ∷ 0 ∷ 4 ∷ 5 ∷ 14 ∷ 0 ∷ 1 ∷ low ∷ high ∷ low ∷ high ∷ 0x10 ∷ []
+-- elements 4 and 5
+setSheet : List ℕ → List ℕ
+setSheet set = 2 ∷ 0 ∷ 4 ∷ 10 ∷ 0 ∷ 4 ∷ 5 ∷ 14 ∷ 0 ∷ 1 ∷ set ++ (0x10 ∷ [])
 
 isilUs : List ℕ
 isilUs = 0x55 ∷ 0x53 ∷ 0x2D ∷ 0x49 ∷ 0x6E ∷ 0x55 ∷ 0x2D ∷ 0x4D ∷ 0x75 ∷ []
@@ -58,14 +58,14 @@ pairs =
     refuses (reading pageSize [] [] .answer) 1 ∷ refuses (reading pageSize (zeros 33) [] .answer) 1 ∷ refuses (reading pageSize (zeros 34) [] .answer) 1 ∷
     refuses (reading pageSize (zeros 2052) [] .answer) 1 ∷ refuses (reading pageSize (zeros 36) [] .answer) 3 ∷
     -- parts 255, ordinal 255 writes FF FF; parts 256 is refused 9
-    same (take 3 (writing pageSize (setSheet 255 0) (zeros 36) (zeros 9) .tag)) (0x11 ∷ 0xFF ∷ 0xFF ∷ []) ∷
-    refuses (writing pageSize (setSheet 0 1) (zeros 36) (zeros 9) .answer) 9 ∷
+    same (take 3 (writing pageSize (setSheet (255 ∷ 0 ∷ 255 ∷ 0 ∷ [])) (zeros 36) (zeros 9) .tag)) (0x11 ∷ 0xFF ∷ 0xFF ∷ []) ∷
+    refuses (writing pageSize (setSheet (0 ∷ 1 ∷ 1 ∷ 0 ∷ [])) (zeros 36) (zeros 9) .answer) 9 ∷
     -- US-InU-Mu fills the owner field with USInU-Mu and five 00
     same (ownerField 13 isilUs) (0x55 ∷ 0x53 ∷ 0x49 ∷ 0x6E ∷ 0x55 ∷ 0x2D ∷ 0x4D ∷ 0x75 ∷ zeros 5) ∷
     []
 
 pub pairs-hold : T (all (λ b. b) pairs)
-unfolding pairs digits setSheet isilUs need inOrder afterwards andThen orElse passed all same le16 word padWith trim strip upTo past xorAll joined goodSize lockMap differs count changed lockedChanged crcBit crcBits crcByte crcFrom crc covered textByte text capital unitByte isilOf isil alternative isOwner goodItem prefixIn ownerSaid goodOwner itemField packed basicOwner ownerField wellFormed carriable walk chain libraryBlock otherBlocks payload lastField libraryIn goodLibrary libraryBytes sealed blockOne numbers setInfo shape form value placeIn place known put clash heads bodies sheetOf offsetsFit risingFrom rising cut entriesIn rightSheet find carriedIn contentOf goodValues entriesAt carriedEntries entries library front basic laidOut image fits goodFields agree ownerOn contentIn tagSteps readSteps reading layingSteps writeSteps writing
+unfolding pairs digits setSheet isilUs need inOrder afterwards andThen orElse passed all same le16 word padWith trim strip upTo past xorAll joined goodSize lockMap differs lockedDiffers count changed lockedChanged crcBit crcBits crcByte crcFrom crc covered textByte text capital unitByte isilOf isil alternative isOwner goodItem prefixIn ownerSaid goodOwner itemField packed basicOwner ownerField wellFormed carriable walk chain libraryBlock otherBlocks payload lastField libraryIn goodLibrary libraryBytes sealed blockOne numbers setInfo shape form value placeIn place known put clash heads bodies sheetOf offsetsFit risingFrom rising cut entriesIn rightSheet find carriedIn contentOf goodValues entriesAt carriedEntries entries library front basic laidOut image fits goodFields agree ownerOn contentIn tagSteps readSteps reading layingSteps writeSteps writing
 pairs-hold = tt
 
 -- ---- the whole case, and the standard's examples
@@ -129,5 +129,5 @@ pub examples : List Bool
 examples = isSheetOf wholeSheet wholeTag ∷ isSheetOf sheet1 tag1 ∷ isSheetOf sheet2 tag2 ∷ changedBack ∷ []
 
 pub examples-hold : T (all (λ b. b) examples)
-unfolding examples isilUs wholeSheet wholeFront wholeTag isilDk fieldDk item1 tag1 sheet1 item2 acquisition tag2 sheet2 changedBack need inOrder afterwards andThen orElse passed all same le16 word padWith trim strip upTo past xorAll joined goodSize lockMap differs count changed lockedChanged crcBit crcBits crcByte crcFrom crc covered textByte text capital unitByte isilOf isil alternative isOwner goodItem prefixIn ownerSaid goodOwner itemField packed basicOwner ownerField wellFormed carriable walk chain libraryBlock otherBlocks payload lastField libraryIn goodLibrary libraryBytes sealed blockOne numbers setInfo shape form value placeIn place known put clash heads bodies sheetOf offsetsFit risingFrom rising cut entriesIn rightSheet find carriedIn contentOf goodValues entriesAt carriedEntries entries library front basic laidOut image fits goodFields agree ownerOn contentIn tagSteps readSteps reading layingSteps writeSteps writing ownLayout editSteps editing
+unfolding examples isilUs wholeSheet wholeFront wholeTag isilDk fieldDk item1 tag1 sheet1 item2 acquisition tag2 sheet2 changedBack need inOrder afterwards andThen orElse passed all same le16 word padWith trim strip upTo past xorAll joined goodSize lockMap differs lockedDiffers count changed lockedChanged crcBit crcBits crcByte crcFrom crc covered textByte text capital unitByte isilOf isil alternative isOwner goodItem prefixIn ownerSaid goodOwner itemField packed basicOwner ownerField wellFormed carriable walk chain libraryBlock otherBlocks payload lastField libraryIn goodLibrary libraryBytes sealed blockOne numbers setInfo shape form value placeIn place known put clash heads bodies sheetOf offsetsFit risingFrom rising cut entriesIn rightSheet find carriedIn contentOf goodValues entriesAt carriedEntries entries library front basic laidOut image fits goodFields agree ownerOn contentIn tagSteps readSteps reading layingSteps writeSteps writing ownLayout editSteps editing
 examples-hold = tt

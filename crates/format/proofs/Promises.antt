@@ -1,20 +1,21 @@
 -- The promises about the three calls, in one place and in the words of the demands. Everything is said of `reading`, `writing` and
 -- `editing` (specs/Calls.antt), the very functions that the contracts cite through `Reads`, `Writes` and `Edits` (specs/Numbers.antt).
 use mathlib.Core.Path.{_≡_, refl, sym, ap, ap₂, _∙_}
+use mathlib.Core.Logic.{_⊎_}
 use Prim.Native.Nat.{ℕ, _+_, _≤_, _<_}
 use mathlib.Core.Bool.{Bool, true, false, _&&_}
 use mathlib.Core.List.{List, [], _∷_}
 use lib.ListN.{length, take}
-use Rattle.format.specs.Answers.{Answer, Refusal, plain, got, refused, Step, inOrder}
+use Rattle.format.specs.Answers.{Answer, Refusal, plain, got, refused, Step, inOrder, Passed, FirstRefusal}
 use Rattle.format.specs.Bytes.{bytes, filled, joined}
 use Rattle.format.specs.Pages.{goodSize, lockMap, changed, lockedChanged, openPages, Kept}
-use Rattle.format.specs.Elements.{Content, partsOf, required, known, el, put, sound}
+use Rattle.format.specs.Elements.{Content, partsOf, ordinalOf, required, known, el, put, sound}
 use Rattle.format.specs.Sheet.{Entry, sheetOf, fitting, entriesIn, rightSheet, find, contentOf, goodValues, entries}
 use Rattle.format.specs.Layout.{ownerWidth, laidOut, image, fits}
-use Rattle.format.specs.Reading.{blocksIn, contentIn, tagSteps}
+use Rattle.format.specs.Reading.{blocksIn, contentIn, tagSteps, Readable}
 use Rattle.format.specs.Calls.{sheetIn, readSteps, reading, sheetContent, writeSteps, writing, ownLayout, editSteps, Edited, editing}
-use Rattle.format.specs.Numbers.{readGiven, writeGiven, editGiven, readNumbers, writeNumbers, editNumbers, Reads, Writes, Edits}
-use Rattle.format.specs.History.{Own, Edit, State, run, Undone}
+use Rattle.format.specs.Numbers.{readGiven, writeGiven, editGiven, readNumbers, writeNumbers, editNumbers, Each, oneOf, numberOf, Reads, Writes, Edits, ReadsC, WritesC, EditsC}
+use Rattle.format.specs.History.{Own, Edit, State, begin, run, Undone}
 use Rattle.format.specs.declared.ReadAnswer.{ReadAnswer}
 use Rattle.format.specs.declared.ReadAnswer.the-variants as read
 use Rattle.format.specs.declared.WriteAnswer.{WriteAnswer}
@@ -22,18 +23,19 @@ use Rattle.format.specs.declared.WriteAnswer.the-variants as write
 use Rattle.format.specs.declared.EditAnswer.{EditAnswer}
 use Rattle.format.specs.declared.EditAnswer.the-variants as edit
 use Rattle.format.proofs.Tests.{never, and-l, and-r}
-use Rattle.format.proofs.Answers.{got-inj, FirstRefusal, refuses, refused-first, Passed, works, worked, next-ok, next-no}
-use Rattle.format.proofs.Refusals.{Each, read-order, write-order, edit-order, oneOf, listed, read-unchanged, write-unchanged, edit-unchanged}
-use Rattle.format.proofs.Readable.{Readable, on-readable}
+use Rattle.format.proofs.Answers.{got-inj, refuses, refused-first, works, worked, next-ok, next-no}
+use Rattle.format.proofs.Refusals.{read-order, write-order, edit-order, listed, zero-done, read-unchanged, write-unchanged, edit-unchanged}
+use Rattle.format.proofs.Readable.{on-readable}
 use Rattle.format.proofs.Slots.{put-same}
 use Rattle.format.proofs.Sheets.{Right, sheet-right, right-sheet}
-use Rattle.format.proofs.Entries.{entries-content, values-parts, Entered, content-entries, wide-parts}
+use Rattle.format.proofs.Entries.{entries-content, values-parts, Entered, content-entries, bad-set}
+use Rattle.format.proofs.Values.{set-held}
 use Rattle.format.proofs.Sound.{read-sound}
 use Rattle.format.proofs.Shorter.{read-fits, laid-shorter, read-fitting}
 use Rattle.format.proofs.Laying.{laid-open, own-read, layout-own}
 use Rattle.format.proofs.Writes.{Written, write-accepted, write-tag, written-own, written-read, write-own}
-use Rattle.format.proofs.Edits.{Accepted, accepted-edit, edit-accepted, edit-tag, same-accepted, same-given}
-use Rattle.format.proofs.Histories.{Good, begin, begun, history}
+use Rattle.format.proofs.Edits.{Accepted, edit-steps, edit-accepted, edit-tag, same-accepted, same-given}
+use Rattle.format.proofs.Histories.{Good, begun, history}
 
 -- ==== Demand 1: one answer and one content for each buffer, on every input; a refusal changes nothing and gives only its number
 
@@ -65,6 +67,26 @@ edit-same (edit.Refused n) (edit.Refused m) e = let k : n ≡ m = cc in ap edit.
 pub edits-one : (t locks : List ℕ) (n : ℕ) (s buffer : List ℕ) (r r′ : EditAnswer) (tag tag′ old old′ : List ℕ)
     → Edits t locks n s buffer r tag old → Edits t locks n s buffer r′ tag′ old′ → (r ≡ r′) × (tag ≡ tag′) × (old ≡ old′)
 edits-one t locks n s buffer r r′ tag tag′ old old′ a b = (edit-same r r′ (a .answered ∙ sym (b .answered)), a .left ∙ sym (b .left), a .handed ∙ sym (b .handed))
+
+-- so too for the exported calls
+pub c-reads-one : (t buffer : List ℕ) (used r r′ : ℕ) (s s′ : List ℕ) (u u′ : ℕ) → ReadsC t buffer used r s u → ReadsC t buffer used r′ s′ u′ → (r ≡ r′) × (s ≡ s′) × (u ≡ u′)
+c-reads-one t buffer used r r′ s s′ u u′ a b = (a .answered ∙ sym (b .answered), a .left ∙ sym (b .left), a .result ∙ sym (b .result))
+
+pub c-writes-one : (s t locks : List ℕ) (pages r r′ : ℕ) (tag tag′ : List ℕ) (n n′ : ℕ) → WritesC s t locks pages r tag n → WritesC s t locks pages r′ tag′ n′ → (r ≡ r′) × (tag ≡ tag′) × (n ≡ n′)
+c-writes-one s t locks pages r r′ tag tag′ n n′ a b = (a .answered ∙ sym (b .answered), a .left ∙ sym (b .left), a .result ∙ sym (b .result))
+
+pub c-edits-one : (t locks : List ℕ) (n : ℕ) (s buffer : List ℕ) (pages used r r′ : ℕ) (tag tag′ old old′ : List ℕ) (k k′ u u′ : ℕ)
+    → EditsC t locks n s buffer pages used r tag old k u → EditsC t locks n s buffer pages used r′ tag′ old′ k′ u′ → (r ≡ r′) × (tag ≡ tag′) × (old ≡ old′) × (k ≡ k′) × (u ≡ u′)
+c-edits-one t locks n s buffer pages used r r′ tag tag′ old old′ k k′ u u′ a b =
+    (a .answered ∙ sym (b .answered), a .left ∙ sym (b .left), a .handed ∙ sym (b .handed), a .result ∙ sym (b .result), a .old-length ∙ sym (b .old-length))
+
+-- their number is 0 only when the work is done
+pub zero-is-done : {A : Type 0} (ns : List ℕ) (ss : List Step) (a : A) → Each ns ss → oneOf ns 0 ≡ false → numberOf (inOrder ss a) ≡ 0 → inOrder ss a ≡ got a
+zero-is-done = zero-done
+
+pub no-zero : (oneOf readNumbers 0 ≡ false) × (oneOf writeNumbers 0 ≡ false) × (oneOf editNumbers 0 ≡ false)
+unfolding oneOf readNumbers writeNumbers editNumbers
+no-zero = (refl, refl, refl)
 
 -- a call, as a list of steps, refuses with x exactly when a step refuses with x and no earlier one refuses
 pub refuses-exactly : {A : Type 0} (x : Refusal) (ss : List Step) (a : A) → (FirstRefusal x ss → inOrder ss a ≡ refused x) × (inOrder ss a ≡ refused x → FirstRefusal x ss)
@@ -138,11 +160,12 @@ what-is-read p t y g r = (read-sound t y r, read-fits p t y g r, laid-shorter p 
 pub offsets-fit : (p : ℕ) (t : List ℕ) → bytes t ≡ true → goodSize p (length t) ≡ true → Readable t → fitting (entries (contentIn t)) ≡ true
 offsets-fit = read-fitting
 
--- a number that its field cannot hold is refused: a sheet with more than 255 parts is 9
-pub parts-refused : (p : ℕ) (s t locks : List ℕ) → goodSize p (length t) && lockMap p locks (length t) ≡ true → rightSheet s ≡ true
-    → 255 < partsOf (find 4 (entriesIn s)) → writing p s t locks .answer ≡ refused (plain 9)
+-- a number that its field cannot hold is refused: a sheet with more than 255 parts, or an ordinal above 255 or above the parts, is 9
+pub set-refused : (p : ℕ) (s t locks : List ℕ) → goodSize p (length t) && lockMap p locks (length t) ≡ true → rightSheet s ≡ true
+    → (let set : List ℕ = find 4 (entriesIn s) in (255 < partsOf set) ⊎ ((255 < ordinalOf set) ⊎ (partsOf set < ordinalOf set)))
+    → writing p s t locks .answer ≡ refused (plain 9)
 unfolding writing writeSteps
-parts-refused p s t locks z r w = next-ok _ _ _ _ z ∙ next-ok _ _ _ _ r ∙ next-no _ _ _ _ (wide-parts (entriesIn s) w)
+set-refused p s t locks z r w = next-ok _ _ _ _ z ∙ next-ok _ _ _ _ r ∙ next-no _ _ _ _ (bad-set (entriesIn s) (set-held (find 4 (entriesIn s)) w))
 
 -- a write never changes more pages than are open
 pub write-open : (p : ℕ) (s t locks : List ℕ) (k : ℕ) → writing p s t locks .answer ≡ got k → k ≤ openPages locks
@@ -174,17 +197,18 @@ own-is-written p locks t₀ t c o y n z l =
 -- down for the starting elements with the accepted edits applied, and no locked page has changed. Hand the old elements back, newest
 -- first: each is accepted, each brings the tag back to its earlier bytes, and each changes as many pages as its edit did.
 pub every-history : (p : ℕ) (locks t : List ℕ) (c : Content) → Own c t → (es : List Edit)
-    → let st : State = run p locks (begin p locks t c) es in
+    → let st : State = run p locks (begin t c) es in
     Own (st .content) (st .tag) × Kept p locks t (st .tag) × Undone p locks (st .tag) (st .kept)
 every-history p locks t c o es =
-    let g = history p locks t (begin p locks t c) es (begun p locks t c o) in
+    let g = history p locks t (begin t c) es (begun p locks t c o) in
     (g .own, g .kept, g .undone)
 
 -- an edit never changes more pages than are open
-pub edit-open : (p : ℕ) (t locks : List ℕ) (c : Content) → Own c t → (n : ℕ) (s buffer : List ℕ) (r : Edited) → editing p t locks n s buffer .answer ≡ got r → r .pages ≤ openPages locks
-edit-open p t locks c o n s buffer r e =
-    let a = accepted-edit p locks t c o n s buffer r e in
-    rw (sym (ap (λ (x : Edited). x .pages) (a .1))) (laid-open p locks t (put c n s) (a .0 .laid) (and-r (goodSize p (length t)) (lockMap p locks (length t)) (a .0 .sized)))
+pub edit-open : (p : ℕ) (t locks : List ℕ) (n : ℕ) (s buffer : List ℕ) (r : Edited) → editing p t locks n s buffer .answer ≡ got r → r .pages ≤ openPages locks
+edit-open p t locks n s buffer r e =
+    let a = edit-steps p t locks n s buffer r e in
+    rw (sym (ap (λ (x : Edited). x .pages) (a .1)))
+    (laid-open p locks t (put (contentIn t) n s) (a .0 .laid) (and-r (goodSize p (length t)) (lockMap p locks (length t)) (a .0 .sized)))
 
 -- setting what is already there is accepted and changes 0 pages; where nothing is there, that is removing an absent element
 pub same-changes-nothing : (p : ℕ) (t locks : List ℕ) (c : Content) → Own c t → (n : ℕ) (buffer : List ℕ)

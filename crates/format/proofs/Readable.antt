@@ -1,4 +1,4 @@
--- A tag of good size that passes the tests 3 to 7.
+-- A tag that passes the tests 3 to 7.
 use mathlib.Core.Path.{_≡_, refl, sym, ap, _∙_}
 use Prim.Native.Nat.{ℕ, _%_}
 use mathlib.Core.Bool.{Bool, true}
@@ -8,15 +8,8 @@ use lib.Dec.{eqb}
 use Rattle.format.specs.Answers.{Answer, got, refused, Step, need, inOrder, passed}
 use Rattle.format.specs.Bytes.{same, le16, part}
 use Rattle.format.specs.Crc.{crc, covered}
-use Rattle.format.specs.Reading.{walked, blocksIn, goodFields, agree, tagSteps}
+use Rattle.format.specs.Reading.{walked, blocksIn, tagSteps, Readable}
 use Rattle.format.proofs.Answers.{first-ok, first-inv, next-ok, next-inv, passed-ok, passed-inv}
-
-pub record Readable (t : List ℕ) : Type 0 where
-  pub parameter : eqb (getD t 0 0 % 16) 1 ≡ true
-  pub check : same (part 19 2 t) (le16 (crc (covered t))) ≡ true
-  pub blocks : walked t ≡ got (blocksIn t)
-  pub fields : goodFields t ≡ true
-  pub agreed : agree t ≡ true
 
 -- such a tag passes on to the steps behind
 pub readable-on : {A : Type 0} (t : List ℕ) (ss : List Step) (a : A) → Readable t → inOrder (tagSteps t ++ ss) a ≡ inOrder ss a

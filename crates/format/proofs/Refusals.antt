@@ -13,9 +13,9 @@ use Rattle.format.specs.Chain.{wellFormed, isLibrary, walk, chain}
 use Rattle.format.specs.Elements.{Content}
 use Rattle.format.specs.Reading.{walked, tagSteps}
 use Rattle.format.specs.Calls.{readSteps, layingSteps, writeSteps, editSteps, reading, writing, editing}
-use Rattle.format.specs.Numbers.{readNumbers, writeNumbers, editNumbers}
+use Rattle.format.specs.Numbers.{readNumbers, writeNumbers, editNumbers, Each, none, next, oneOf, numberOf}
 use Rattle.format.proofs.Tests.{never, or-l, or-r}
-use Rattle.format.proofs.Answers.{need-refused, passed-refused, afterwards-refused}
+use Rattle.format.proofs.Answers.{worked, need-refused, passed-refused, afterwards-refused}
 
 -- ---- the damage of a chain is 5
 
@@ -50,11 +50,6 @@ walk-refused (suc f) seen s x e = go (eqb (getD s 0 0) 0) (eqb (getD s 0 0) 1) e
 
 -- ---- the numbers, in order
 
--- the steps refuse with these numbers, each with its own
-pub data Each : List ℕ → List Step → Type 0 where
-  none : Each [] []
-  next : {n : ℕ} {s : Step} {ns : List ℕ} {ss : List Step} → ((x : Refusal) → s ≡ refused x → x ≡ plain n) → Each ns ss → Each (n ∷ ns) (s ∷ ss)
-
 test : {ns : List ℕ} {ss : List Step} (n : ℕ) (b : Bool) → Each ns ss → Each (n ∷ ns) (need n b ∷ ss)
 test n b r = next (λ x e. need-refused n b x e .1) r
 
@@ -78,15 +73,23 @@ unfolding editNumbers editSteps tagSteps layingSteps
 edit-order p room t locks n s = test 1 _ (test 3 _ (test 4 _ (walk-step t (test 6 _ (test 7 _ (test 13 _ (test 2 _ (test 9 _ (test 10 _ (test 11 _ (test 12 _ none)))))))))))
 
 -- a refusal gives one of the numbers
-unfoldable pub oneOf : List ℕ → ℕ → Bool
-oneOf [] k = false
-oneOf (n ∷ ns) k = eqb k n || oneOf ns k
-
 pub listed : {A : Type 0} (ns : List ℕ) (ss : List Step) (a : A) (x : Refusal) → Each ns ss → inOrder ss a ≡ refused x → (k : ℕ) × (x ≡ plain k) × (oneOf ns k ≡ true)
 unfolding inOrder oneOf
 listed _ _ a x none e = never (cc)
 listed (n ∷ ns) (got u ∷ ss) a x (next f r) e = let h = listed ns ss a x r e in (h .0, h .1, or-r (eqb (h .0) n) (oneOf ns (h .0)) (h .2))
 listed (n ∷ ns) (refused y ∷ ss) a x (next f r) e = let k : y ≡ x = cc in (n, f x (ap refused k), or-l (eqb n n) (oneOf ns n) (eq-eqb n n refl))
+
+-- so where 0 is none of them, a number 0 says that the work is done
+pub zero-done : {A : Type 0} (ns : List ℕ) (ss : List Step) (a : A) → Each ns ss → oneOf ns 0 ≡ false → numberOf (inOrder ss a) ≡ 0 → inOrder ss a ≡ got a
+zero-done {A} ns ss a r z e = go (inOrder ss a) refl e
+  where
+    go : (m : Answer A) → inOrder ss a ≡ m → numberOf m ≡ 0 → m ≡ got a
+    go (got b) h n = ap got (sym (worked ss a b h .1))
+    go (refused (plain k)) h n =
+        let l = listed ns ss a (plain k) r h in
+        let q : plain k ≡ plain (l .0) = l .1 in
+        let m : l .0 ≡ 0 = cc in
+        never (cc (ap (oneOf ns) m))
 
 -- ---- at a refusal every buffer is as it was
 

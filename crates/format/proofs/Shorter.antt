@@ -18,7 +18,7 @@ use Rattle.format.specs.Chain.{idOf, wellFormed, isLibrary, walk, chain,
 use Rattle.format.specs.Elements.{Content, numbers, placeIn, place, el, form, value, valuesAt}
 use Rattle.format.specs.Sheet.{Entry, bodies, bodyAt, offsetsFit, fitting, entriesAt, carriedEntries, entries}
 use Rattle.format.specs.Layout.{ownerWidth, ownerOf, usageOf, library, basic, laidOut, fits}
-use Rattle.format.specs.Reading.{mainUsage, itemIn, ownerIn, walked, blocksIn, libraryOn, ownerOn, contentIn}
+use Rattle.format.specs.Reading.{mainUsage, itemIn, ownerIn, walked, blocksIn, libraryOn, ownerOn, contentIn, Readable}
 use Rattle.format.proofs.Tests.{never, and-l, and-r, and-i, not-t, or-inv, or-r, same-eq, same-refl}
 use Rattle.format.proofs.Answers.{need-inv, then-inv, got-inj}
 use Rattle.format.proofs.Strings.{empty-of, part-length, strip-length, strip-strip, length-pad, up-to-before, past-before}
@@ -26,7 +26,6 @@ use Rattle.format.proofs.Fields.{Isil, isil-facts, isil-first, Alternat
 use Rattle.format.proofs.Blocks.{Whole, well-facts, carried-facts, sealed-length}
 use Rattle.format.proofs.Slots.{Sound, sound-parts, form-carriable}
 use Rattle.format.proofs.Values.{value-short}
-use Rattle.format.proofs.Readable.{Readable}
 use Rattle.format.proofs.Layouts.{basic-length, size-cases, size-most}
 use Rattle.format.proofs.Sound.{capitals-unhyphened, isil-made, prefix-length, Fields, fields-parts, agree-owner, library-tests, library-short, blocks-handed, read-sound}
 

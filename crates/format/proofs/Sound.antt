@@ -1,4 +1,4 @@
--- Whatever a readable tag holds is sound, and its layout exists on that tag: it is no longer than what was read.
+-- Whatever a readable tag holds is sound: a value for each number, blocks that can be carried, no clash.
 use mathlib.Core.Path.{_≡_, refl, sym, ap, ap₂, _∙_}
 use mathlib.Core.Logic.{_⊎_, inl, inr}
 use Prim.Native.Nat.{ℕ, zero, suc, _+_, _-_, _*_, _/_, _%_, _≤_, _<_, min}
@@ -15,7 +15,7 @@ use Rattle.format.specs.Pages.{goodSize}
 use Rattle.format.specs.Fields.{text, capital, unitByte, isilOf, isil, hyphen, blank, alternate, alternative, isOwner, marker, marked, goodItem, prefixIn, ownerSaid, goodOwner, long}
 use Rattle.format.specs.Chain.{idOf, wellFormed, isLibrary, carriable, walk, chain, libraryBlock, otherBlocks, Library, payload, lastField, libraryIn, goodLibrary}
 use Rattle.format.specs.Elements.{Content, numbers, placeIn, place, el, setBytes, required, shape, form, value, clash, valuesAt, sound}
-use Rattle.format.specs.Reading.{mainUsage, itemIn, ownerIn, walked, blocksIn, libraryOn, goodFields, agree, ownerOn, contentIn}
+use Rattle.format.specs.Reading.{mainUsage, itemIn, ownerIn, walked, blocksIn, libraryOn, goodFields, agree, ownerOn, contentIn, Readable}
 use Rattle.format.proofs.Tests.{never, and-l, and-r, and-i, and-iff, and-no, not-t, or-f, or-inv, or-l, or-r, if-inv, all-drop, bytes-at, same-eq}
 use Rattle.format.proofs.Answers.{need-inv, then-inv, got-inj}
 use Rattle.format.proofs.Strings.{empty-of, part-length, strip-length, up-to-length, past-length, other, without, up-to-before, past-before}
@@ -23,7 +23,6 @@ use Rattle.format.proofs.Fields.{capital-ge, Isil, isil-facts, isil-fir
 use Rattle.format.proofs.Blocks.{Whole, well-facts}
 use Rattle.format.proofs.Slots.{Sound, parts-sound}
 use Rattle.format.proofs.Values.{text-value, set-value}
-use Rattle.format.proofs.Readable.{Readable}
 
 -- ---- the owner field
 

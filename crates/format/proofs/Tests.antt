@@ -33,6 +33,9 @@ pub and-no : (a b : Bool) → b ≡ false → a && b ≡ false
 and-no true b e = e
 and-no false b e = refl
 
+pub and-left : (a b : Bool) → a ≡ false → a && b ≡ false
+and-left a b e = rw e
+
 pub not-t : (a : Bool) → not a ≡ true → a ≡ false
 not-t true e = sym e
 not-t false e = refl

@@ -12,7 +12,7 @@ use Rattle.format.specs.Bytes.{if_then_else_, isEmpty, all, same, le16, 
 use Rattle.format.specs.Fields.{text, isil, alternate, alternative, isOwner, marker, marked, long, basicOwner}
 use Rattle.format.specs.Elements.{required, partsOf, ordinalOf, setBytes, setInfo, shape, form, value}
 use Rattle.format.specs.Layout.{firstByte}
-use Rattle.format.proofs.Tests.{never, and-l, and-r, and-i, and-iff, not-t, not-f, or-l, or-r}
+use Rattle.format.proofs.Tests.{never, and-l, and-r, and-i, and-iff, and-no, and-left, not-t, not-f, or-l, or-r}
 use Rattle.format.proofs.Strings.{solid, le16-byte}
 use Rattle.format.proofs.Fields.{text-nil, text-unmarked, isil-first, alternative-facts, owner-facts, spoken}
 
@@ -92,6 +92,13 @@ value-set s v =
       whole = ap₂ (λ (x y : List ℕ). x ++ y) (le16-byte (getD s 0 0) (omega arith)) (le16-byte (getD s 2 0) (omega arith))
           ∙ sym (l ∙ ap₂ (λ (x y : ℕ). getD s 0 0 ∷ x ∷ getD s 2 0 ∷ y ∷ []) b d);
     }
+
+-- no field holds more than 255 parts or an ordinal above them
+pub set-held : (s : List ℕ) → (255 < partsOf s) ⊎ ((255 < ordinalOf s) ⊎ (partsOf s < ordinalOf s)) → setInfo s ≡ false
+unfolding setInfo
+set-held s (inl h) = and-left _ _ (and-left _ _ (and-no (eqb (length s) 4) (leb (partsOf s) 255) (lt-leb (partsOf s) 255 h)))
+set-held s (inr (inl h)) = and-left _ _ (and-no (eqb (length s) 4 && leb (partsOf s) 255) (leb (ordinalOf s) 255) (lt-leb (ordinalOf s) 255 h))
+set-held s (inr (inr h)) = and-no (eqb (length s) 4 && leb (partsOf s) 255 && leb (ordinalOf s) 255) (leb (ordinalOf s) (partsOf s)) (lt-leb (ordinalOf s) (partsOf s) h)
 
 pub set-value : (p q : ℕ) → q ≤ p → p ≤ 255 → value 4 (setBytes p q) ≡ true
 unfolding value form shape setInfo le16 word

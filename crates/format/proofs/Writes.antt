@@ -12,12 +12,12 @@ use Rattle.format.specs.Pages.{goodSize, lockMap, changed, lockedChanged
 use Rattle.format.specs.Elements.{Content, clash, sound}
 use Rattle.format.specs.Sheet.{Entry, sheetOf, fitting, entriesIn, rightSheet, contentOf, goodValues, entries}
 use Rattle.format.specs.Layout.{image, fits}
-use Rattle.format.specs.Reading.{contentIn}
+use Rattle.format.specs.Reading.{contentIn, Readable}
 use Rattle.format.specs.Calls.{sheetIn, readSteps, reading, layingSteps, sheetContent, writeSteps, writing}
 use Rattle.format.specs.History.{Own}
 use Rattle.format.proofs.Tests.{and-l, and-r, and-i}
 use Rattle.format.proofs.Answers.{next-ok, next-inv, none-ok, afterwards-got}
-use Rattle.format.proofs.Readable.{Readable, readable-on}
+use Rattle.format.proofs.Readable.{readable-on}
 use Rattle.format.proofs.Sheets.{Right, sheet-right, right-sheet}
 use Rattle.format.proofs.Entries.{values-parts, entries-content, values-sound, Entered, content-entries}
 use Rattle.format.proofs.Slots.{sound-parts}

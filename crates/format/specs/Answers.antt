@@ -27,6 +27,16 @@ inOrder [] a = got a
 inOrder (got u ∷ steps) a = inOrder steps a
 inOrder (refused x ∷ steps) a = refused x
 
+-- every step is passed
+pub data Passed : List Step → Type 0 where
+  none : Passed []
+  more : {ss : List Step} → Passed ss → Passed (got tt ∷ ss)
+
+-- the first step that refuses does so with x; those before it are passed
+pub data FirstRefusal (x : Refusal) : List Step → Type 0 where
+  here : {ss : List Step} → FirstRefusal x (refused x ∷ ss)
+  later : {ss : List Step} → FirstRefusal x ss → FirstRefusal x (got tt ∷ ss)
+
 -- what is there after a call: `new`, or at a refusal what was there before
 unfoldable pub afterwards : {A B : Type 0} → Answer A → B → B → B
 afterwards (got a) new old = new

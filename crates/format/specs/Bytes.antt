@@ -1,6 +1,7 @@
--- The few operations on strings of bytes that the rules are written with. Bytes are numbers, a string of bytes is a list.
+-- The few operations on strings of bytes that the rules are written with; no rule of document 01 stands here. Bytes are numbers, a
+-- string of bytes is a list.
 use Prim.Native.Nat.{ℕ, zero, suc, _+_, _-_, _*_, _/_, _%_}
-use mathlib.Core.Bool.{Bool, true, false, not, _&&_}
+use mathlib.Core.Bool.{Bool, true, false, _&&_}
 use mathlib.Core.List.{List, [], _∷_, _++_}
 use lib.ListN.{length, take, drop, replicate}
 use lib.Dec.{leb, eqb}

@@ -4,7 +4,7 @@ use mathlib.Core.Bool.{Bool, true, false, not, _&&_, _||_}
 use mathlib.Core.List.{List, [], _∷_, _++_}
 use lib.ListN.{length, getD, take, drop}
 use lib.Dec.{leb, eqb}
-use Rattle.format.specs.Answers.{Answer, got, refused, need, andThen}
+use Rattle.format.specs.Answers.{Answer, got, need, andThen}
 use Rattle.format.specs.Bytes.{if_then_else_, isEmpty, le16, word, xorAll, strip, upTo, past}
 use Rattle.format.specs.Fields.{text, isOwner}
 

@@ -1,7 +1,7 @@
 -- What fields hold: text, ISIL and alternative owner (document 01, "Elements"), and the item and owner fields of the basic block
 -- ("The first 34 bytes"), read and written by the same forms.
 use Prim.Native.Nat.{ℕ, _+_}
-use mathlib.Core.Bool.{Bool, true, false, not, _&&_, _||_}
+use mathlib.Core.Bool.{Bool, not, _&&_, _||_}
 use mathlib.Core.List.{List, [], _∷_, _++_}
 use lib.ListN.{length, take, drop, getD}
 use lib.Dec.{leb, eqb}
@@ -83,7 +83,7 @@ long s = leb 17 (length s)
 unfoldable pub itemField : List ℕ → List ℕ
 itemField s = pad 16 (if long s then marker else s)
 
--- an owner in a basic form; one of the two has a prefix of at most two capitals or begins 02 or 03
+-- an owner in a basic form: an alternative owner behind two 00; an ISIL without its hyphen, one capital filled up by a blank
 unfoldable pub packed : List ℕ → List ℕ
 packed o = if alternate o then 0 ∷ 0 ∷ o else padWith blank 2 (upTo hyphen o) ++ past hyphen o
 

@@ -35,6 +35,10 @@ pub record State : Type 0 where
   pub content : Content
   pub kept : List Undo
 
+-- before the first edit
+abbrev pub begin : List ℕ → Content → State
+begin t c = record { tag = t; content = c; kept = [] }
+
 -- page size and lock map stay the same
 module _ (p : ℕ) (locks : List ℕ) where
   abbrev pub call : List ℕ → Edit → EditOutcome

@@ -1,5 +1,6 @@
 pub mod Answers
 pub mod Bytes
+pub mod Pieces
 pub mod Pages
 pub mod Crc
 pub mod Fields

@@ -1,6 +1,6 @@
 -- Sizes and pages: document 01, "Sizes", and the count of pages changed. Everything is over the page size p.
 use Prim.Native.Nat.{ℕ, zero, suc, _*_, _/_, _%_, _<_}
-use mathlib.Core.Bool.{Bool, true, false, not, _&&_, _||_}
+use mathlib.Core.Bool.{Bool, true, not, _&&_, _||_}
 use mathlib.Core.Path.{_≡_}
 use mathlib.Core.List.{List, [], _∷_}
 use lib.ListN.{length, getD}
@@ -36,8 +36,11 @@ unfoldable pub changed : ℕ → List ℕ → List ℕ → ℕ
 changed p a b = count (differs p a b) (length a / p)
 
 -- how many locked pages would get other bytes
+unfoldable pub lockedDiffers : ℕ → List ℕ → List ℕ → List ℕ → ℕ → Bool
+lockedDiffers p locks a b i = locked locks i && differs p a b i
+
 unfoldable pub lockedChanged : ℕ → List ℕ → List ℕ → List ℕ → ℕ
-lockedChanged p locks a b = count (λ i. locked locks i && differs p a b i) (length a / p)
+lockedChanged p locks a b = count (lockedDiffers p locks a b) (length a / p)
 
 -- how many pages are open
 unfoldable pub openPages : List ℕ → ℕ

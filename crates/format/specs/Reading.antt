@@ -1,10 +1,11 @@
 -- What a tag holds: document 01, "The first 34 bytes" and "Elements", "On reading".
 use Prim.Native.Nat.{ℕ, _*_, _/_, _%_}
-use mathlib.Core.Bool.{Bool, true, false, not, _&&_, _||_, Bool·beq}
+use mathlib.Core.Path.{_≡_}
+use mathlib.Core.Bool.{Bool, true, not, _&&_, _||_, Bool·beq}
 use mathlib.Core.List.{List, [], _∷_}
-use lib.ListN.{length, getD, drop}
+use lib.ListN.{getD, drop}
 use lib.Dec.{leb, eqb}
-use Rattle.format.specs.Answers.{Answer, Step, need, orElse, passed}
+use Rattle.format.specs.Answers.{Answer, Step, got, need, orElse, passed}
 use Rattle.format.specs.Bytes.{if_then_else_, isEmpty, same, le16, part, strip}
 use Rattle.format.specs.Crc.{crc, covered}
 use Rattle.format.specs.Fields.{alternate, marked, goodItem, goodOwner, ownerSaid}
@@ -84,3 +85,11 @@ tagSteps t =
     need 6 (goodFields t) ∷
     need 7 (agree t) ∷
     []
+
+-- a tag that passes these steps
+pub record Readable (t : List ℕ) : Type 0 where
+  pub parameter : eqb (getD t 0 0 % 16) 1 ≡ true
+  pub check : same (part 19 2 t) (le16 (crc (covered t))) ≡ true
+  pub blocks : walked t ≡ got (blocksIn t)
+  pub fields : goodFields t ≡ true
+  pub agreed : agree t ≡ true

@@ -9,7 +9,7 @@ use lib.Dec.{eqb, ltb}
 use lib.ListN.{length, List·getD-eq-default}
 use borrow.Author.Tests.{eq-eqb, ne-eqb, ltb-true, ltb-false}
 use Rattle.format.specs.Bytes.{if_then_else_}
-use Rattle.format.specs.Pages.{locked, differs, count, lockedChanged}
+use Rattle.format.specs.Pages.{locked, differs, lockedDiffers, count, lockedChanged}
 use Rattle.format.proofs.Tests.{never, and-i}
 use Rattle.format.proofs.Paging.{count-zero, zero-count}
 
@@ -42,20 +42,16 @@ pub open-beyond : (locks : List ℕ) (i : ℕ) → length locks ≤ i → locked
 open-beyond locks i h = rw (List·getD-eq-default locks 0 h)
 
 module _ (p : ℕ) (locks t image : List ℕ) where
-  -- a locked page i would get other bytes
-  abbrev pub lockedDiffers : ℕ → Bool
-  lockedDiffers i = locked locks i && differs p t image i
-
   pub one-locked : (i : ℕ) → i < length t / p → locked locks i ≡ true → differs p t image i ≡ true → true ≡ not (eqb (lockedChanged p locks t image) 0)
-  unfolding lockedChanged
-  one-locked i h l d = sym (ap not (counted-one lockedDiffers (length t / p) i h (and-i l d)))
+  unfolding lockedChanged lockedDiffers
+  one-locked i h l d = sym (ap not (counted-one (lockedDiffers p locks t image) (length t / p) i h (and-i l d)))
 
   -- none up to page i, and none locked from there
-  pub none-locked : (i : ℕ) → ((j : ℕ) → j < i → lockedDiffers j ≡ false) → ((j : ℕ) → i ≤ j → j < length t / p → locked locks j ≡ false)
+  pub none-locked : (i : ℕ) → ((j : ℕ) → j < i → lockedDiffers p locks t image j ≡ false) → ((j : ℕ) → i ≤ j → j < length t / p → locked locks j ≡ false)
       → false ≡ not (eqb (lockedChanged p locks t image) 0)
-  unfolding lockedChanged
-  none-locked i below beyond = sym (ap not (eq-eqb _ 0 (zero-count lockedDiffers (length t / p) (λ j h. each j (ltb j i) refl h))))
+  unfolding lockedChanged lockedDiffers
+  none-locked i below beyond = sym (ap not (eq-eqb _ 0 (zero-count (lockedDiffers p locks t image) (length t / p) (λ j h. each j (ltb j i) refl h))))
     where
-      each : (j : ℕ) (b : Bool) → ltb j i ≡ b → j < length t / p → lockedDiffers j ≡ false
+      each : (j : ℕ) (b : Bool) → ltb j i ≡ b → j < length t / p → lockedDiffers p locks t image j ≡ false
       each j true e h = below j (ltb-true j i e)
       each j false e h = ap (λ (l : Bool). l && differs p t image j) (beyond j (ltb-false j i e) h)

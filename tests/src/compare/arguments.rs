@@ -1,6 +1,8 @@
 //! What the command line asks for.
 
-use crate::model::refusal::{self, BLOCK, CHECK, CLASH, EDITING, LARGE, LOCKED, OFFSET, READING, VALUE, WRITING};
+use crate::model::refusal::{
+    self, BLOCK, CHECK, CLASH, EDITING, LARGE, LOCKED, MISMATCH, OFFSET, READING, VALUE, WRITING,
+};
 
 pub const USAGE: &str = "usage: compare read|write|edit|histories|torn|taglist SEED COUNT PROGRAM [ARGUMENT ..]";
 
@@ -44,7 +46,8 @@ impl Subject {
             Subject::Write => &WRITING,
             Subject::Edit => &EDITING,
             Subject::Histories => &[refusal::ROOM, VALUE, CLASH, LARGE, LOCKED],
-            Subject::Torn | Subject::Taglist => &[CHECK, BLOCK],
+            Subject::Torn => &[CHECK, BLOCK, MISMATCH],
+            Subject::Taglist => &[],
         };
         all.iter().copied().filter(|number| *number != OFFSET).collect()
     }

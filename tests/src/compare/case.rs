@@ -20,7 +20,7 @@ pub enum Kind {
 pub struct Call {
     kind: Kind,
     number: u32,
-    buffers: Vec<Vec<u8>>,
+    pub buffers: Vec<Vec<u8>>,
 }
 
 /// The answer, and everything that the call could have changed.
@@ -57,8 +57,9 @@ impl Call {
         let answer = match (self.kind, &mut buffers[..]) {
             (Kind::Read, [tag, sheet]) => model::reading(tag, sheet).map(|used| vec![used]),
             (Kind::Write, [sheet, tag, locks]) => model::writing(sheet, tag, locks).map(|pages| vec![pages]),
-            (Kind::Edit, [tag, locks, value, old]) => model::editing(tag, locks, self.number, value, old)
-                .map(|edited| vec![edited.pages, edited.old_length]),
+            (Kind::Edit, [tag, locks, value, old]) => {
+                model::editing(tag, locks, self.number, value, old).map(|edited| vec![edited.pages, edited.old_length])
+            }
             _ => unreachable!("the constructors give each call its buffers"),
         };
         let left_alone = vec![PRESET; self.result_names().len()];
@@ -113,7 +114,11 @@ impl Call {
         }
         for (name, buffer) in self.buffer_names().iter().zip(&self.buffers) {
             let only_filled = *name == "old" || (*name == "sheet" && self.kind == Kind::Read);
-            words += &if only_filled { format!(" {name}[{}]", buffer.len()) } else { format!(" {name}={}", capital_hex(buffer)) };
+            words += &if only_filled {
+                format!(" {name}[{}]", buffer.len())
+            } else {
+                format!(" {name}={}", capital_hex(buffer))
+            };
         }
         words
     }

@@ -42,11 +42,47 @@ pub fn start(command: &[String]) -> Result<Child, String> {
     child.map_err(|error| format!("compare: {} does not start: {error}", command[0]))
 }
 
+/// A driver that is asked one call at a time.
+pub struct Link {
+    driver: Child,
+    calls: u64,
+}
+
+impl Link {
+    pub fn start(command: &[String]) -> Result<Link, String> {
+        Ok(Link { driver: start(command)?, calls: 0 })
+    }
+
+    /// Whether the driver's outcome is the right one; a line where not.
+    pub fn confirm(&mut self, case: &Case) -> Result<(), String> {
+        let input = self.driver.stdin.as_mut().expect("a pipe was asked for");
+        let output = self.driver.stdout.as_mut().expect("a pipe was asked for");
+        let right = case.expected.frame();
+        let mut got = vec![0; right.len()];
+        self.calls += 1;
+        let asked = input.write_all(&case.call.frame(self.calls % 2 == 1)).and_then(|_| output.read_exact(&mut got));
+        match asked {
+            Err(_) => Err(format!("the driver stopped at {}", case.call.describe())),
+            Ok(()) if got != right => Err(format!("{} at {}", case.difference(&got), case.call.describe())),
+            Ok(()) => Ok(()),
+        }
+    }
+}
+
+impl Drop for Link {
+    /// The driver ends where its input does.
+    fn drop(&mut self) {
+        drop(self.driver.stdin.take());
+        let _its_status_says_nothing_more = self.driver.wait();
+    }
+}
+
 /// Hands each batch to the comparing side before the driver gets it, so that neither side can wait for the other.
 fn feed(mut cases: Cases, mut input: impl Write, sender: SyncSender<Vec<Case>>) -> Result<(), String> {
     loop {
         let batch: Vec<Case> = cases.by_ref().take(BATCH).collect::<Result<_, _>>()?;
-        let frames: Vec<u8> = batch.iter().enumerate().flat_map(|(place, case)| case.call.frame(place % 2 == 1)).collect();
+        let frames: Vec<u8> =
+            batch.iter().enumerate().flat_map(|(place, case)| case.call.frame(place % 2 == 1)).collect();
         if batch.is_empty() || sender.send(batch).is_err() || input.write_all(&frames).is_err() {
             return Ok(());
         }

@@ -39,7 +39,11 @@ impl Report {
     /// The report in words; or the line that says that a case differs or a refusal was not met.
     pub fn judged(&self, subject: &str, seed: u64, to_be_met: Vec<u32>) -> Result<String, String> {
         if let Some((_, line)) = &self.shortest {
-            return Err(format!("{subject}: {} of {} cases differ, the shortest: {line}", self.differing, self.cases()));
+            return Err(format!(
+                "{subject}: {} of {} cases differ, the shortest: {line}",
+                self.differing,
+                self.cases()
+            ));
         }
         if let Some(number) = to_be_met.iter().find(|number| !self.answers.contains_key(number)) {
             return Err(format!("{subject}: {} cases, and none is refused {number}", self.cases()));

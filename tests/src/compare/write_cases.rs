@@ -32,9 +32,9 @@ fn published() -> impl Iterator<Item = Case> + Send {
 fn short_sheets() -> impl Iterator<Item = Case> + Send {
     let two = (0..=u16::MAX).map(|count| count.to_le_bytes().to_vec());
     let others = (0..=255).flat_map(|byte| [vec![byte], vec![0, 0, byte], vec![byte, 0, 0]]);
-    two.chain(others).chain([vec![]]).map(|sheet| {
-        Case::new("all sheets of up to 2 bytes", Call::write(sheet, vec![0xEE; 36], locks::open(36)))
-    })
+    two.chain(others)
+        .chain([vec![]])
+        .map(|sheet| Case::new("all sheets of up to 2 bytes", Call::write(sheet, vec![0xEE; 36], locks::open(36))))
 }
 
 /// Every change of one byte of a sheet, every shorter sheet, and longer ones.

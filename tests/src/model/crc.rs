@@ -2,7 +2,9 @@
 
 /// "The CRC has polynomial 1021 hex, starts at FFFF, takes the high bit of each byte first and has no final inversion."
 pub fn crc(bytes: impl IntoIterator<Item = u8>) -> u16 {
-    bytes.into_iter().fold(0xFFFF, |remainder, byte| (0..8).rev().fold(remainder, |r, bit| take_bit(r, byte >> bit & 1)))
+    bytes
+        .into_iter()
+        .fold(0xFFFF, |remainder, byte| (0..8).rev().fold(remainder, |r, bit| take_bit(r, byte >> bit & 1)))
 }
 
 /// One bit of the message against the remainder's top bit.

@@ -1,10 +1,10 @@
 //! Editing: one element on a tag.
 
 use super::element::{self, ALWAYS, SINGLE};
+use super::layout::layout;
 use super::reading::content_of;
 use super::refusal::{self, need};
 use super::writing::{judge_sizes, lay_down};
-use super::layout::layout;
 
 /// "an old-element buffer under 255 bytes" is too short.
 const OLD_ROOM: usize = 255;

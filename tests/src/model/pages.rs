@@ -5,7 +5,7 @@ pub const PAGE: usize = 4;
 
 /// "A tag has 32 bytes, or a multiple of 4 from 36 to 2,048."
 pub fn is_tag_length(length: usize, page: usize) -> bool {
-    length == 32 || ((36..=2048).contains(&length) && length % page == 0)
+    length == 32 || ((36..=2048).contains(&length) && length.is_multiple_of(page))
 }
 
 /// "The lock map has one byte for each page: 0 open, 1 locked."

@@ -22,8 +22,7 @@ pub const READING: [u32; 8] = [SIZE, CONTENT, CHECK, BLOCK, FIELD, MISMATCH, OFF
 pub const WRITING: [u32; 6] = [SIZE, SHEET, VALUE, CLASH, LARGE, LOCKED];
 
 /// "Editing: 1, 3, 4, 5, 6, 7, 13, 2, 9, 10, 11, 12."
-pub const EDITING: [u32; 12] =
-    [SIZE, CONTENT, CHECK, BLOCK, FIELD, MISMATCH, LOOSE, ROOM, VALUE, CLASH, LARGE, LOCKED];
+pub const EDITING: [u32; 12] = [SIZE, CONTENT, CHECK, BLOCK, FIELD, MISMATCH, LOOSE, ROOM, VALUE, CLASH, LARGE, LOCKED];
 
 /// The table's word for a number.
 pub fn name(number: u32) -> &'static str {

@@ -7,9 +7,9 @@ use mathlib.Core.Bool.{Bool, false, _&&_}
 use borrow.Author.Count.{below-none, below-more}
 use borrow.Author.Needs.{needs}
 use borrow.Author.Tests.{eq-eqb, ne-eqb, ltb-false}
-use Rattle.format.specs.Pages.{pageSize, locked, differs}
+use Rattle.format.specs.Pages.{pageSize, locked, differs, lockedDiffers}
 use Rattle.format.proofs.Tests.{and-no}
-use Rattle.pages.proofs.Counting.{lockedDiffers, one-locked, none-locked, open-beyond}
+use Rattle.pages.proofs.Counting.{one-locked, none-locked, open-beyond}
 use Rattle.pages.proofs.locked_differs.Statement.{statement}
 use Rattle.pages.proofs.locked_differs.Tie as tie
 
@@ -41,6 +41,7 @@ loop-less : tie.Need-loop-less Inv-loop μ-loop
 loop-less c = search needs
 
 loop-again : tie.Need-loop-again Inv-loop μ-loop
+unfolding lockedDiffers
 loop-again c =
     let a = c .before .before .before .before .before .before .before .before .args in
     let l = c .before .before .before .before .loop in (

@@ -1,0 +1,121 @@
+-- What the loops of this crate know at each turn, and how a turn keeps it: each byte passes a test, the first of a byte is sought,
+-- the 00 at the end are left out.
+use mathlib.Core.Path.{_≡_, refl, sym, ap, _∙_}
+use Prim.Native.Nat.{ℕ, zero, suc, _+_, _-_, _≤_, _<_}
+use native.Mathlib.Omega.{arith}
+use native.Mathlib.Nat.{zero-add}
+use native.Mathlib.Numerals.{add-one}
+use mathlib.Core.Bool.{Bool, true, false, _&&_}
+use mathlib.Core.List.{List, [], _∷_, _++_}
+use lib.ListN.{length, take, drop, getD, drop-of-length-le}
+use lib.Seq.{drop-cons, take-suc, take-length, length-take-le}
+use borrow.Author.Tests.{eq-eqb, ne-eqb}
+use Rattle.format.specs.Bytes.{all, trim, strip, upTo}
+use Rattle.format.proofs.Strings.{strip-append}
+
+-- ---- each byte passes a test
+
+-- the bytes before i pass it, so those from i on decide
+pub record Passing (f : ℕ → Bool) (s : List ℕ) (i : ℕ) : Type 0 where
+  pub inside : i ≤ length s
+  pub rest : all f (drop i s) ≡ all f s
+
+module _ (f : ℕ → Bool) (s : List ℕ) where
+  pub passing-start : Passing f s 0
+  passing-start = record { inside = omega arith; rest = refl }
+
+  all-cons : (i : ℕ) (t : Bool) → i < length s → f (getD s i 0) ≡ t → all f (drop i s) ≡ t && all f (drop (suc i) s)
+  unfolding all
+  all-cons i t h e = rw (drop-cons s i 0 h, e) refl
+
+  pub passing-on : (i : ℕ) → Passing f s i → i < length s → f (getD s i 0) ≡ true → Passing f s (i + 1)
+  passing-on i p h e = record { inside = omega arith; rest = rw add-one (sym (all-cons i true h e) ∙ p .rest) }
+
+  pub passing-not : (i : ℕ) → Passing f s i → i < length s → f (getD s i 0) ≡ false → false ≡ all f s
+  passing-not i p h e = sym (all-cons i false h e) ∙ p .rest
+
+  pub passing-all : (i : ℕ) → Passing f s i → length s ≤ i → true ≡ all f s
+  unfolding all
+  passing-all i p h = sym (ap (all f) (drop-of-length-le s h)) ∙ p .rest
+
+-- ---- the first b
+
+-- none of the bytes before i is b
+pub record Seeking (b : ℕ) (s : List ℕ) (i : ℕ) : Type 0 where
+  pub inside : i ≤ length s
+  pub before : i + length (upTo b (drop i s)) ≡ length (upTo b s)
+
+module _ (b : ℕ) (s : List ℕ) where
+  pub seeking-start : Seeking b s 0
+  seeking-start = record { inside = omega arith; before = zero-add (length (upTo b s)) }
+
+  seen : (i : ℕ) → i < length s → getD s i 0 ≡ b → upTo b (drop i s) ≡ []
+  unfolding upTo
+  seen i h e = rw (drop-cons s i 0 h, eq-eqb (getD s i 0) b e) refl
+
+  unseen : (i : ℕ) → i < length s → (getD s i 0 ≡ b → ⊥) → upTo b (drop i s) ≡ getD s i 0 ∷ upTo b (drop (suc i) s)
+  unfolding upTo
+  unseen i h e = rw (drop-cons s i 0 h, ne-eqb (getD s i 0) b e) refl
+
+  pub seeking-on : (i : ℕ) → Seeking b s i → i < length s → (getD s i 0 ≡ b → ⊥) → Seeking b s (i + 1)
+  seeking-on i p h e =
+      record {
+        inside = omega arith;
+        before = rw add-one (omega (arith, p .before, ap length (unseen i h e)));
+      }
+
+  pub seeking-found : (i : ℕ) → Seeking b s i → i < length s → getD s i 0 ≡ b → i ≡ length (upTo b s)
+  seeking-found i p h e = omega (arith, p .before, ap length (seen i h e))
+
+  pub seeking-over : (i : ℕ) → Seeking b s i → length s ≤ i → i ≡ length (upTo b s)
+  unfolding upTo
+  seeking-over i p h = omega (arith, p .before, ap (λ (l : List ℕ). length (upTo b l)) (drop-of-length-le s h))
+
+-- ---- the 00 at the end
+
+-- the bytes from n on are 00
+pub record Stripping (s : List ℕ) (n : ℕ) : Type 0 where
+  pub inside : n ≤ length s
+  pub kept : strip (take n s) ≡ strip s
+
+trim-more : (x y : ℕ) (ys : List ℕ) → trim x (y ∷ ys) ≡ x ∷ y ∷ ys
+unfolding trim
+trim-more zero y ys = refl
+trim-more (suc x) y ys = refl
+
+-- a string that ends with another byte keeps all
+strip-ends : (s : List ℕ) (x : ℕ) → (x ≡ 0 → ⊥) → strip (s ++ x ∷ []) ≡ s ++ x ∷ []
+unfolding strip trim
+strip-ends [] zero h = absurd (h refl)
+strip-ends [] (suc x) h = refl
+strip-ends (y ∷ []) x h = ap (trim y) (strip-ends [] x h) ∙ trim-more y x []
+strip-ends (y ∷ z ∷ s) x h = ap (trim y) (strip-ends (z ∷ s) x h) ∙ trim-more y z (s ++ x ∷ [])
+
+module _ (s : List ℕ) where
+  pub stripping-start : Stripping s (length s)
+  stripping-start = record { inside = omega arith; kept = ap strip (take-length s) }
+
+  pub stripping-on : (n : ℕ) → Stripping s n → 0 < n → getD s (n - 1) 0 ≡ 0 → Stripping s (n - 1)
+  unfolding strip trim
+  stripping-on n p h e =
+      let m : suc (n - 1) ≡ n = omega arith in
+      let l : n - 1 < length s = omega (arith, p .inside) in
+      let zeros : strip (getD s (n - 1) 0 ∷ []) ≡ [] = ap (λ (x : ℕ). strip (x ∷ [])) e in
+      record {
+        inside = omega (arith, p .inside);
+        kept =
+            sym (strip-append (take (n - 1) s) (getD s (n - 1) 0 ∷ []) zeros)
+            ∙ sym (ap strip (take-suc s (n - 1) 0 l)) ∙ ap (λ (k : ℕ). strip (take k s)) m ∙ p .kept;
+      }
+
+  pub stripping-stop : (n : ℕ) → Stripping s n → 0 < n → (getD s (n - 1) 0 ≡ 0 → ⊥) → n ≡ length (strip s)
+  stripping-stop n p h e =
+      let m : suc (n - 1) ≡ n = omega arith in
+      let l : n - 1 < length s = omega (arith, p .inside) in
+      let t : take n s ≡ take (n - 1) s ++ (getD s (n - 1) 0 ∷ []) = sym (ap (λ (k : ℕ). take k s) m) ∙ take-suc s (n - 1) 0 l in
+      let k : strip s ≡ take n s = sym (p .kept) ∙ ap strip t ∙ strip-ends (take (n - 1) s) (getD s (n - 1) 0) e ∙ sym t in
+      sym (ap length k ∙ length-take-le n s (p .inside))
+
+  pub stripping-none : (n : ℕ) → Stripping s n → n ≤ 0 → 0 ≡ length (strip s)
+  unfolding strip
+  stripping-none n p h = let z : n ≡ 0 = omega arith in ap (λ (k : ℕ). length (strip (take k s))) (sym z) ∙ ap length (p .kept)

@@ -1,0 +1,54 @@
+-- The invariant: the bytes before `i` pass the test. The measure is what is left.
+use Prim.Native.Nat.{_-_}
+use mathlib.Core.Path.{sym, _∙_}
+use borrow.Author.Needs.{needs}
+use borrow.Author.Tests.{not-true, not-false}
+use lib.ListN.{length}
+use Rattle.format.specs.Fields.{textByte, text}
+use Rattle.fields.proofs.Loops.{Passing, passing-start, passing-on, passing-not, passing-all}
+use Rattle.fields.proofs.text.Statement.{statement}
+use Rattle.fields.proofs.text.Tie as tie
+
+abbrev Inv-loop : tie.InvT-loop
+Inv-loop s i₀ i = Passing textByte s i
+
+abbrev μ-loop : tie.MeasureT-loop
+μ-loop s i₀ i = length s - i
+
+loop-holds : tie.Need-loop-holds Inv-loop μ-loop
+loop-holds c = passing-start textByte (c .before .args .s .now)
+
+shared-slice-read-within : tie.Need-shared-slice-read-within Inv-loop μ-loop
+shared-slice-read-within c = search needs
+
+within-requires : tie.Need-within-requires Inv-loop μ-loop
+within-requires c κs = search needs
+
+returns : tie.Need-returns Inv-loop μ-loop
+unfolding textByte text
+returns c =
+    let k = c .before .before .before .before in
+    passing-not textByte (k .before .before .args .s .now) (k .loop .i) (k .loop .inv) (c .before .before .before .loop-test .taken)
+    (sym (c .before .within .ensures) ∙ not-true _ (c .if1 .taken))
+
+add-i : tie.Need-add-i Inv-loop μ-loop
+add-i c = search needs
+
+loop-less : tie.Need-loop-less Inv-loop μ-loop
+loop-less c = search needs
+
+loop-again : tie.Need-loop-again Inv-loop μ-loop
+unfolding textByte text
+loop-again c =
+    let k = c .before .before .before .before in
+    passing-on textByte (k .before .before .args .s .now) (k .loop .i) (k .loop .inv) (c .before .before .before .loop-test .taken)
+    (sym (c .before .within .ensures) ∙ not-false _ (c .if1 .left))
+
+returns-2 : tie.Need-returns-2 Inv-loop μ-loop
+unfolding textByte text
+returns-2 c = passing-all textByte (c .before .before .before .args .s .now) (c .before .loop .i) (c .before .loop .inv) (c .loop-test .left)
+
+pub text-spec : {M : Type 1} → statement M
+text-spec =
+    tie.close
+    (tie.spec Inv-loop μ-loop loop-holds shared-slice-read-within within-requires returns add-i loop-less loop-again returns-2)

@@ -1,0 +1,60 @@
+-- A buffer in which pieces are stored one behind the other.
+use mathlib.Core.Path.{_≡_, refl, sym, ap, ap₂, _∙_}
+use mathlib.Core.List.{List, [], _∷_, _++_, append-assoc, append-nil}
+use Prim.Native.Nat.{ℕ, _+_, _-_, _≤_, _<_}
+use native.Mathlib.Nat.{add-zero, zero-add}
+use native.Mathlib.Omega.{arith}
+use native.Mathlib.Numerals.{add-one}
+use lib.ListN.{length, take, drop, set, length-append, length-take, length-drop, take-append-drop, drop-of-length-le}
+use lib.Seq.{set-split, take-at, drop-at, drop-drop, take-length, length-take-le}
+use Rattle.format.specs.Bytes.{filled}
+use Rattle.format.specs.Pieces.{stored}
+
+-- nothing stored
+pub stored-none : (o : List ℕ) (at : ℕ) → stored o at [] at o
+stored-none o at = (sym (add-zero at), sym (ap (λ (n : ℕ). take at o ++ drop n o) (add-zero at) ∙ take-append-drop at o))
+
+-- a copy to the part that begins at byte `at`
+pub stored-copy : (o p last : List ℕ) (at k : ℕ) → k ≡ length p → at + length p ≤ length o
+    → last ≡ take (length p) p ++ drop (length p) (take k (drop at o))
+    → stored o at p (at + length p) (take at o ++ (last ++ drop k (drop at o)))
+stored-copy o p last at k hk h e =
+    let short : length (take k (drop at o)) ≤ length p = simp length-take (omega arith) in
+    let l : last ≡ p = e ∙ ap₂ (λ (x y : List ℕ). x ++ y) (take-length p) (drop-of-length-le (take k (drop at o)) short) ∙ append-nil p in
+    (refl, ap₂ (λ (x y : List ℕ). take at o ++ (x ++ y)) l (ap (λ (n : ℕ). drop n (drop at o)) hk ∙ drop-drop (length p) at o))
+
+-- the buffer keeps its length
+pub stored-length : (o p d : List ℕ) (at r : ℕ) → at + length p ≤ length o → stored o at p r d → length d ≡ length o
+stored-length o p d at r h s =
+    ap length (s .1)
+    ∙ length-append (take at o) (p ++ drop (at + length p) o)
+    ∙ omega (arith, length-append p (drop (at + length p) o), length-take at o, length-drop (at + length p) o)
+
+-- one piece, and another behind it
+pub stored-then : (o d e p q : List ℕ) (at m r : ℕ) → at ≤ length o → stored o at p m d → stored d m q r e → stored o at (p ++ q) r e
+stored-then o d e p q at m r h s u =
+    let n : ℕ = at + length p in
+    let front : length (take at o ++ p) ≡ m = length-append (take at o) p ∙ omega (arith, length-take-le at o h, s .0) in
+    let d-is : d ≡ (take at o ++ p) ++ drop n o = s .1 ∙ sym (append-assoc (take at o) p (drop n o)) in
+    let before : take m d ≡ take at o ++ p = ap (take m) d-is ∙ take-at (take at o ++ p) (drop n o) m front in
+    let behind : drop (m + length q) d ≡ drop (n + length q) o =
+    sym (drop-drop (length q) m d) ∙ ap (drop (length q)) (ap (drop m) d-is ∙ drop-at (take at o ++ p) (drop n o) m front) ∙ drop-drop (length q) n o in
+    let total : n + length q ≡ at + length (p ++ q) = omega (arith, length-append p q) in (
+      omega (arith, s .0, u .0),
+      u .1
+          ∙ ap₂ (λ (x y : List ℕ). x ++ (q ++ y)) before (behind ∙ ap (λ (k : ℕ). drop k o) total)
+          ∙ append-assoc (take at o) p (q ++ drop (at + length (p ++ q)) o)
+          ∙ ap (λ (x : List ℕ). take at o ++ x) (sym (append-assoc p q (drop (at + length (p ++ q)) o))),
+    )
+
+-- the same piece by another equation
+pub stored-as : (o d p q : List ℕ) (at r : ℕ) → p ≡ q → stored o at p r d → stored o at q r d
+stored-as o d p q at r e s = rw e at s
+
+-- a piece at the front fills the buffer
+pub stored-front : (o d p : List ℕ) (r : ℕ) → stored o 0 p r d → (r ≡ length p) × (d ≡ filled p o)
+stored-front o d p r s = (s .0 ∙ zero-add (length p), s .1 ∙ ap (λ (n : ℕ). p ++ drop n o) (zero-add (length p)))
+
+-- one byte
+pub stored-byte : (o : List ℕ) (at b : ℕ) → at < length o → stored o at (b ∷ []) (at + 1) (set o at b)
+stored-byte o at b h = (refl, rw add-one (set-split o at b h))

@@ -1,0 +1,14 @@
+//! All tests of the independent program, a file for each purpose.
+
+mod comparison;
+mod generators;
+mod histories;
+mod pairs;
+mod published_examples;
+mod readings_01_to_12;
+mod readings_13_to_23;
+mod readings_24_to_32;
+mod readings_33_to_39;
+mod refusals;
+mod round_trips;
+mod slips;
