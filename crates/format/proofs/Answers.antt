@@ -144,3 +144,21 @@ afterwards-got m a new old e = rw e
 pub afterwards-refused : {A B : Type 0} (m : Answer A) (x : Refusal) (new old : B) → m ≡ refused x → afterwards m new old ≡ old
 unfolding afterwards
 afterwards-refused m x new old e = rw e
+
+-- ---- steps before others
+
+pub refused-on : {A B : Type 0} (ss rs : List Step) (a : A) (b : B) (x : Refusal) → inOrder ss a ≡ refused x → inOrder (ss ++ rs) b ≡ refused x
+unfolding inOrder
+refused-on [] rs a b x e = never (cc)
+refused-on (got u ∷ ss) rs a b x e = refused-on ss rs a b x e
+refused-on (refused y ∷ ss) rs a b x e = let k : y ≡ x = cc in ap refused k
+
+pub passed-on : {A B : Type 0} (ss rs : List Step) (a c : A) (b : B) → inOrder ss a ≡ got c → inOrder (ss ++ rs) b ≡ inOrder rs b
+unfolding inOrder
+passed-on [] rs a c b e = refl
+passed-on (got u ∷ ss) rs a c b e = passed-on ss rs a c b e
+passed-on (refused y ∷ ss) rs a c b e = never (cc)
+
+-- the same steps before another value
+pub refused-with : {A B : Type 0} (ss : List Step) (a : A) (b : B) (x : Refusal) → inOrder ss a ≡ refused x → inOrder ss b ≡ refused x
+refused-with ss a b x e = refuses x ss b (refused-first x ss a e)

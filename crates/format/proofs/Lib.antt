@@ -13,6 +13,7 @@ pub mod Entries
 pub mod Readable
 pub mod Values
 pub mod Layouts
+pub mod Joined
 pub mod Sound
 pub mod Shorter
 pub mod Refusals

@@ -24,7 +24,7 @@ unfolding andThen
 then-refused (got a) f x e = inr (a, refl, e)
 then-refused (refused y) f x e = inl (let k : y ≡ x = cc in ap refused k)
 
-walk-refused : (f : ℕ) (seen : Bool) (s : List ℕ) (x : Refusal) → walk f seen s ≡ refused x → x ≡ plain 5
+pub walk-refused : (f : ℕ) (seen : Bool) (s : List ℕ) (x : Refusal) → walk f seen s ≡ refused x → x ≡ plain 5
 unfolding walk
 walk-refused zero seen s x e = never (cc)
 walk-refused (suc f) seen s x e = go (eqb (getD s 0 0) 0) (eqb (getD s 0 0) 1) e (walk-refused f)

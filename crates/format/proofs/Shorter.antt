@@ -280,7 +280,7 @@ module _ (t : List ℕ) (r : Readable t) where
 
 -- ---- how many bytes the blocks have
 
-others-le : (bs : List (List ℕ)) → length (joined (otherBlocks bs)) ≤ length (joined bs)
+pub others-le : (bs : List (List ℕ)) → length (joined (otherBlocks bs)) ≤ length (joined bs)
 unfolding joined otherBlocks
 others-le [] = omega arith
 others-le (b ∷ bs) = go (isLibrary b) (others-le bs)
@@ -290,7 +290,7 @@ others-le (b ∷ bs) = go (isLibrary b) (others-le bs)
     go false ih = omega (arith, length-append b (joined bs), length-append b (joined (otherBlocks bs)))
 
 -- block 1 and the others are among the blocks
-split-total : (bs : List (List ℕ)) → length (libraryBlock bs) + length (joined (otherBlocks bs)) ≤ length (joined bs)
+pub split-total : (bs : List (List ℕ)) → length (libraryBlock bs) + length (joined (otherBlocks bs)) ≤ length (joined bs)
 unfolding joined libraryBlock otherBlocks
 split-total [] = omega arith
 split-total (b ∷ bs) = go (isLibrary b) (split-total bs)
@@ -321,6 +321,11 @@ walk-total (suc g) seen s bs e = go (eqb (getD s 0 0) 0) (eqb (getD s 0 0) 1) e 
         let d = then-inv (walk g (isLibrary b || seen) (drop n s)) _ bs (h .2) in
         let i = ih (isLibrary b || seen) (drop n s) (d .0) (d .1) in
         rw (sym (got-inj (d .2))) (omega (arith, length-append b (joined (d .0)), i, length-take n s, length-drop n s))
+
+-- the carried blocks of a tag have no more bytes than follow its first 34
+pub carried-short : (t : List ℕ) → Readable t → length (joined (otherBlocks (blocksIn t))) ≤ length t - 34
+unfolding chain
+carried-short t r = omega (arith, others-le (blocksIn t), walk-total (length (drop 34 t)) false (drop 34 t) (blocksIn t) (r .blocks), length-drop 34 t)
 
 -- ---- the layout of what was read
 

@@ -1,0 +1,5 @@
+pub mod Counted
+pub mod Chain
+pub mod Places
+pub mod Laws
+pub mod Turns

@@ -1,0 +1,172 @@
+// The walker, and the chain of blocks: document 01, "The chain of blocks".
+ghost use mathlib.Core.Path.{_≡_};
+ghost use mathlib.Core.Bool.{not, _&&_};
+ghost use Prim.Native.Nat.{_≤_};
+ghost use lib.ListN.{getD, drop};
+ghost use Rattle.format.specs.Bytes.{xorAll};
+ghost use Rattle.format.specs.Chain.{idOf, wellFormed, isLibrary};
+ghost use Rattle.chain.specs.Part.{thatPart};
+ghost use Rattle.chain.specs.Survey.{surveyOf};
+
+// ---- the walker
+
+// A walker holds the tag and the place of the next block.
+struct Walker<'a> {
+    tag: &'a [u8],
+    at: usize,
+}
+
+// The byte at `at`; 0 where there is none.
+fn byte_at(s: &[u8], at: usize) -> usize
+    ensures { λ r. ⌜ (r ≡ getD (now (s .entry)) at 0) × (r ≤ 255) ⌝ }
+{
+    if at < s.len() { s[at] as usize } else { 0 }
+}
+
+// The work of the walker: the part of the tag that begins at `at`, as many bytes as its first says, as far as the tag has
+// them; no bytes at the tag's end.
+fn part_at<'a>(tag: &'a [u8], at: usize) -> &'a [u8]
+    ensures { λ r. ⌜ thatPart (tag .entry) at (getD (now (tag .entry)) at 0) r ⌝ }
+{
+    let len = tag.len();
+    if len <= at {
+        return &tag[len..len];
+    }
+    let size = byte_at(tag, at);
+    if len - at < size {
+        return &tag[at..len];
+    }
+    let end = at + size;
+    &tag[at..end]
+}
+
+// A walker whose next block begins at `at`.
+fn new<'a>(tag: &'a [u8], at: usize) -> Walker<'a>
+    ensures { λ w. ⌜ (w .tag ≡ tag .entry) × (w .at ≡ at) ⌝ }
+{
+    Walker { tag, at }
+}
+
+// The walker's next block, as that very part of the tag.
+fn block<'a>(w: Walker<'a>) -> &'a [u8]
+    ensures { λ b. ⌜ thatPart (w .entry .tag) (w .entry .at) (getD (now (w .entry .tag)) (w .entry .at) 0) b ⌝ }
+{
+    part_at(w.tag, w.at)
+}
+
+// The block that begins at `at`: as many bytes as its first byte says, as far as the tag has them; no bytes at the tag's end.
+// It is that very part of the tag.
+pub fn block_at<'a>(tag: &'a [u8], at: usize) -> &'a [u8]
+    ensures { λ r. ⌜ thatPart (tag .entry) at (getD (now (tag .entry)) at 0) r ⌝ }
+{
+    block(new(tag, at))
+}
+
+// ---- the chain
+
+// What the chain holds, or that it is damaged.
+pub enum Survey {
+    // `library` is where block 1 begins and `length` its length, both 0 where there is none; `count` is how many other
+    // blocks there are, and `size` how many bytes they have together.
+    Whole {
+        library: usize,
+        length: usize,
+        count: usize,
+        size: usize,
+    },
+    Damaged,
+}
+
+// A block's ID, low byte first; a byte that the block lacks counts as 00.
+pub fn id_of(block: &[u8]) -> usize
+    ensures { λ r. ⌜ r ≡ idOf (now (block .entry)) ⌝ }
+{
+    byte_at(block, 1) + 256 * byte_at(block, 2)
+}
+
+// Is the block well formed, and no second block 1? `x` is the XOR of the bytes behind the first, where the block is
+// structured; it is the first byte where the XOR of the whole block is 00. `seen`: a block 1 came before.
+fn right_block(block: &[u8], x: u8, seen: bool) -> bool
+    requires { ⌜ (idOf (now block) ≤ 100 → x ≡ xorAll (drop 1 (now block))) ⌝ }
+    ensures { λ r. ⌜ r ≡ (wellFormed (now (block .entry)) && not (isLibrary (now (block .entry)) && seen)) ⌝ }
+{
+    if block.len() < 3 {
+        return false;
+    }
+    if byte_at(block, 0) != block.len() {
+        return false;
+    }
+    let id = id_of(block);
+    if id == 0 {
+        return false;
+    }
+    if 100 < id {
+        return true;
+    }
+    if id == 1 && seen {
+        return false;
+    }
+    if block.len() < 4 {
+        return false;
+    }
+    x == block[0]
+}
+
+// Walks the chain from byte 34, from block to block and over the bytes of each structured block for its XOR, and stops
+// altogether at the first damage.
+pub fn survey_of(tag: &[u8]) -> Survey
+    ensures { λ r. ⌜ r ≡ surveyOf (now (tag .entry)) ⌝ }
+{
+    let mut at: usize = 34;
+    let mut library: usize = 0;
+    let mut length: usize = 0;
+    let mut count: usize = 0;
+    let mut size: usize = 0;
+    let mut damaged = false;
+    'chain: while at < tag.len() {
+        let block = block_at(tag, at);
+        let n = byte_at(tag, at);
+        if n == 0 {
+            break 'chain;
+        }
+        if n == 1 {
+            at += 1;
+            continue 'chain;
+        }
+        let id = id_of(block);
+        let mut x: u8 = 0;
+        if id <= 100 {
+            let mut k: usize = 1;
+            while k < n {
+                if block.len() <= k {
+                    damaged = true;
+                    break 'chain;
+                }
+                x = x ^ block[k];
+                k += 1;
+            }
+        }
+        if !right_block(block, x, length != 0) {
+            damaged = true;
+            break 'chain;
+        }
+        if id == 1 {
+            library = at;
+            length = n;
+        } else {
+            count += 1;
+            size += n;
+        }
+        at += n;
+    }
+    if damaged {
+        Survey::Damaged
+    } else {
+        Survey::Whole {
+            library,
+            length,
+            count,
+            size,
+        }
+    }
+}
