@@ -215,12 +215,12 @@ find-value n es h p = elim (find-form n es h) [
   | inr e ↦ rw (form-full n (find n es) e) e
 ]
 
-find-values : (ns : List ℕ) (es : List Entry) → forms es ≡ true → all (present es) ns ≡ true → valuesAt ns (map (λ n. find n es) ns) ≡ true
+pub find-values : (ns : List ℕ) (es : List Entry) → forms es ≡ true → all (present es) ns ≡ true → valuesAt ns (map (λ n. find n es) ns) ≡ true
 unfolding valuesAt all
 find-values [] es h p = refl
 find-values (n ∷ ns) es h p = and-i (find-value n es h (and-l (present es n) (all (present es) ns) p)) (find-values ns es h (and-r (present es n) (all (present es) ns) p))
 
-carried-forms : (es : List Entry) → forms es ≡ true → all (form 255) (carriedIn es) ≡ true
+pub carried-forms : (es : List Entry) → forms es ≡ true → all (form 255) (carriedIn es) ≡ true
 unfolding all carriedIn
 carried-forms [] h = refl
 carried-forms (x ∷ es) h = go (eqb (x .number) 255) refl (carried-forms es (and-r (form (x .number) (x .bytes)) (forms es) h))

@@ -1,0 +1,58 @@
+-- `urp_write` takes the answer apart: the number and the results are what the call's contract says.
+use mathlib.Core.Path.{_≡_, refl, sym, ap, _∙_}
+use Rattle.format.specs.Numbers.{numberOf, resultOf, writeGiven}
+use Rattle.capi.proofs.Given.{result-got, result-refused}
+use borrow.Author.Needs.{needs}
+use Rattle.capi.proofs.urp_write.Statement.{statement}
+use Rattle.capi.proofs.urp_write.Tie as tie
+
+write-requires : tie.Need-write-requires
+write-requires c κs = search needs
+
+enum-known-answer : tie.Need-enum-known-answer
+enum-known-answer c = search needs
+
+enum-told : tie.Need-enum-told
+enum-told c = search needs
+
+write-number-requires : tie.Need-write-number-requires
+write-number-requires c κs = search needs
+
+same-length : tie.Need-same-length
+same-length c = search needs
+
+returns : tie.Need-returns
+returns c =
+    let e = c .before .before .before .before .before .write .ensures in
+    let told = sym (e .answered) ∙ ap writeGiven (c .before .enum-told .given .1) in
+    record {
+      answered = c .write-number .ensures ∙ ap numberOf (e .answered);
+      left = e .left;
+      result = result-refused _ _ _ _ told;
+    }
+
+same-length-2 : tie.Need-same-length-2
+same-length-2 c = search needs
+
+returns-2 : tie.Need-returns-2
+returns-2 c =
+    let e = c .before .before .before .before .before .write .ensures in
+    let told = sym (e .answered) ∙ ap writeGiven (c .before .answer .given .1) in
+    record {
+      answered = ap numberOf (sym told);
+      left = e .left;
+      result = result-got _ _ _ _ told;
+    }
+
+pub urp-write-spec : {M : Type 1} → statement M
+urp-write-spec =
+    tie.close
+    (tie.spec
+    write-requires
+    enum-known-answer
+    enum-told
+    write-number-requires
+    same-length
+    returns
+    same-length-2
+    returns-2)

@@ -1,0 +1,75 @@
+-- What a number says of its element: which numbers are known, and what shape and form each asks for.
+use mathlib.Core.Path.{_≡_, refl, sym, ap, _∙_}
+use Prim.Native.Nat.{ℕ, _+_, _-_, _≤_, _<_}
+use native.Mathlib.Omega.{arith}
+use mathlib.Core.Bool.{Bool, true, false, not, _&&_}
+use mathlib.Core.List.{List, [], _∷_}
+use lib.Dec.{leb}
+use lib.ListN.{length}
+use borrow.Author.Tests.{ne-eqb, le-leb, lt-leb, leb-true, leb-false}
+use Rattle.format.specs.Elements.{numbers, required, shape, form, value, placeIn, place, known}
+use Rattle.format.proofs.Tests.{never, and-l, and-no}
+
+-- ---- known numbers
+
+-- where each of k numbers from m on is known, so is a number among them
+pub known-among : (m k n : ℕ) → m ≤ n → n < m + k → ((i : ℕ) → i < k → known (m + i) ≡ true) → true ≡ known n
+known-among m k n lo hi each =
+    let e : m + (n - m) ≡ n = omega arith in
+    sym (each (n - m) (omega arith)) ∙ ap known e
+
+-- a number that is none of the table's is unknown
+pub unknown : (n : ℕ) → (n ≡ 1 → ⊥) → (n ≡ 3 → ⊥) → (n ≡ 4 → ⊥) → (n ≡ 5 → ⊥) → (n ≡ 19 → ⊥) → (n ≡ 22 → ⊥) → (n ≡ 23 → ⊥) → known n ≡ false
+unfolding known place placeIn numbers
+unknown n a b c d e f g =
+    rw (ne-eqb 1 n (λ h. a (sym h)), ne-eqb 3 n (λ h. b (sym h)), ne-eqb 4 n (λ h. c (sym h)), ne-eqb 5 n (λ h. d (sym h)), ne-eqb 19 n (λ h. e (sym h)), ne-eqb 22 n (λ h. f (sym h)), ne-eqb 23 n (λ h. g (sym h)))
+
+-- ---- shapes and forms
+
+-- an unknown number has no shape
+pub no-shape : (n : ℕ) (s : List ℕ) → (n ≡ 1 → ⊥) → (n ≡ 3 → ⊥) → (n ≡ 4 → ⊥) → (n ≡ 5 → ⊥) → (n ≡ 19 → ⊥) → (n ≡ 22 → ⊥) → (n ≡ 23 → ⊥) → (n ≡ 255 → ⊥)
+    → shape n s ≡ false
+unfolding shape
+no-shape n s a b c d e f g h = rw (ne-eqb n 1 a, ne-eqb n 3 b, ne-eqb n 4 c, ne-eqb n 5 d, ne-eqb n 19 e, ne-eqb n 22 f, ne-eqb n 23 g, ne-eqb n 255 h)
+
+pub form-short : (n : ℕ) (s : List ℕ) → length s ≤ 255 → shape n s ≡ form n s
+unfolding form
+form-short n s h = sym (rw (le-leb (length s) 255 h) (and-true (shape n s)))
+  where
+    and-true : (t : Bool) → t && true ≡ t
+    and-true true = refl
+    and-true false = refl
+
+pub form-long : (n : ℕ) (s : List ℕ) → 255 < length s → false ≡ form n s
+unfolding form
+form-long n s h = sym (and-no (shape n s) (leb (length s) 255) (lt-leb (length s) 255 h))
+
+-- ---- values that an edit may set
+
+pub unknown-refused : (n : ℕ) (s : List ℕ) → known n ≡ false → false ≡ known n && value n s
+unknown-refused n s e = sym (rw e)
+
+-- no bytes are a value of a number that may be absent
+pub removing : (n : ℕ) (s : List ℕ) → known n ≡ true → length s ≡ 0 → not (required n) ≡ known n && value n s
+unfolding value
+removing n [] k e = sym (rw k)
+removing n (x ∷ s) k e = absurd (omega arith)
+
+-- others are a value where they have the number's form
+pub setting : (n : ℕ) (s : List ℕ) → known n ≡ true → (length s ≡ 0 → ⊥) → form n s ≡ known n && value n s
+unfolding value
+setting n [] k h = absurd (h refl)
+setting n (x ∷ s) k h = sym (rw k)
+
+-- a number with a form is a byte
+pub form-byte : (n : ℕ) (s : List ℕ) → form n s ≡ true → n ≤ 255
+unfolding form
+form-byte n s e = go (leb n 255) refl
+  where
+    no : 255 < n → shape n s ≡ false
+    no h =
+        no-shape n s (λ q. omega (arith, q)) (λ q. omega (arith, q)) (λ q. omega (arith, q)) (λ q. omega (arith, q)) (λ q. omega (arith, q)) (λ q. omega (arith, q)) (λ q. omega (arith, q)) (λ q. omega (arith, q))
+
+    go : (t : Bool) → leb n 255 ≡ t → n ≤ 255
+    go true h = leb-true n 255 h
+    go false h = never (cc (and-l (shape n s) (leb (length s) 255) e, no (leb-false n 255 h)))

@@ -1,0 +1,20 @@
+-- Empty is no value; else the text decides.
+use borrow.Author.Needs.{needs}
+use Rattle.format.specs.Elements.{shape}
+use Rattle.fields.proofs.Places.{is-empty, not-empty}
+use Rattle.elements.proofs.some_text.Statement.{statement}
+use Rattle.elements.proofs.some_text.Tie as tie
+
+returns : tie.Need-returns
+unfolding shape
+returns c = rw (is-empty (c .before .before .args .s .now) (c .if1 .taken))
+
+text-requires : tie.Need-text-requires
+text-requires c κs = search needs
+
+returns-2 : tie.Need-returns-2
+unfolding shape
+returns-2 c = rw (not-empty (c .before .before .before .args .s .now) (c .before .if1 .left)) (c .text .ensures)
+
+pub some-text-spec : {M : Type 1} → statement M
+some-text-spec = tie.close (tie.spec returns text-requires returns-2)

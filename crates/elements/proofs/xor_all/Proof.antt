@@ -1,0 +1,55 @@
+-- The invariant: the XOR so far and that of the bytes from `i` on come to the XOR of all. The measure is what is left.
+use mathlib.Core.Path.{_≡_, refl, sym, ap, _∙_}
+use Prim.Native.Nat.{ℕ, suc, _-_, _≤_}
+use native.Mathlib.Numerals.{add-one}
+use mathlib.Core.List.{List}
+use lib.Bits.{bitXor, xor-zero-r}
+use lib.ListN.{length, drop, getD, drop-of-length-le}
+use lib.Seq.{drop-cons}
+use borrow.Author.Needs.{needs}
+use Rattle.format.specs.Bytes.{xorAll}
+use Rattle.format.proofs.Xor.{xor-assoc}
+use Rattle.elements.proofs.xor_all.Statement.{statement}
+use Rattle.elements.proofs.xor_all.Tie as tie
+
+abbrev Inv-loop : tie.InvT-loop
+Inv-loop s x₀ i₀ x i = (i ≤ length s) × (bitXor x (xorAll (drop i s)) ≡ xorAll s)
+
+abbrev μ-loop : tie.MeasureT-loop
+μ-loop s x₀ i₀ x i = length s - i
+
+loop-holds : tie.Need-loop-holds Inv-loop μ-loop
+loop-holds c = (search needs, refl)
+
+shared-slice-read-x : tie.Need-shared-slice-read-x Inv-loop μ-loop
+shared-slice-read-x c = search needs
+
+add-i : tie.Need-add-i Inv-loop μ-loop
+add-i c = search needs
+
+loop-less : tie.Need-loop-less Inv-loop μ-loop
+loop-less c = search needs
+
+loop-again : tie.Need-loop-again Inv-loop μ-loop
+unfolding xorAll
+loop-again c =
+    let s = c .before .before .before .args .s .now in
+    let l = c .before .before .loop in
+    let b = getD s (l .i) 0 in (
+      search needs,
+      rw add-one
+          (xor-assoc (l .x) b (xorAll (drop (suc (l .i)) s))
+          ∙ sym (ap (λ (r : List ℕ). bitXor (l .x) (xorAll r)) (drop-cons s (l .i) 0 (c .before .loop-test .taken))) ∙ l .inv .1),
+    )
+
+returns : tie.Need-returns Inv-loop μ-loop
+unfolding xorAll
+returns c =
+    let s = c .before .before .args .s .now in
+    let l = c .before .loop in
+    sym (xor-zero-r (l .x)) ∙ sym (ap (λ (r : List ℕ). bitXor (l .x) (xorAll r)) (drop-of-length-le s (c .loop-test .left))) ∙ l .inv .1
+
+pub xor-all-spec : {M : Type 1} → statement M
+xor-all-spec =
+    tie.close
+    (tie.spec Inv-loop μ-loop loop-holds shared-slice-read-x add-i loop-less loop-again returns)

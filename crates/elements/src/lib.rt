@@ -1,0 +1,148 @@
+// Judging the elements of a sheet: document 01, "Elements". The slices are lent, nothing is copied or changed.
+ghost use mathlib.Core.Path.{_≡_};
+ghost use mathlib.Core.Bool.{_&&_};
+ghost use Prim.Native.Nat.{_<_};
+ghost use Rattle.format.specs.Bytes.{word, xorAll};
+ghost use Rattle.format.specs.Fields.{text};
+ghost use Rattle.format.specs.Chain.{carriable};
+ghost use Rattle.format.specs.Elements.{setInfo, shape, form, value, known};
+
+// The number in two bytes, low byte first.
+fn word(low: u8, high: u8) -> usize
+    ensures { λ r. ⌜ r ≡ word low high ⌝ }
+{
+    low as usize + 256 * (high as usize)
+}
+
+// Is it text, and not empty: elements 1 and 22.
+fn some_text(s: &[u8]) -> bool
+    ensures { λ r. ⌜ r ≡ shape 1 (now (s .entry)) ⌝ }
+{
+    if s.len() == 0 {
+        return false;
+    }
+    fields::text(s)
+}
+
+// Is it set information, element 4: parts, then ordinal, both at most 255, ordinal at most parts.
+fn set_info(s: &[u8]) -> bool
+    ensures { λ r. ⌜ r ≡ setInfo (now (s .entry)) ⌝ }
+{
+    if s.len() != 4 {
+        return false;
+    }
+    let parts = word(s[0], s[1]);
+    let ordinal = word(s[2], s[3]);
+    if 255 < parts {
+        return false;
+    }
+    if 255 < ordinal {
+        return false;
+    }
+    ordinal <= parts
+}
+
+// Is it a media format, element 19: one byte, not 00.
+fn media(s: &[u8]) -> bool
+    ensures { λ r. ⌜ r ≡ shape 19 (now (s .entry)) ⌝ }
+{
+    if s.len() != 1 {
+        return false;
+    }
+    s[0] != 0
+}
+
+// The XOR of all bytes.
+fn xor_all(s: &[u8]) -> u8
+    ensures { λ r. ⌜ r ≡ xorAll (now (s .entry)) ⌝ }
+{
+    let mut x: u8 = 0;
+    let mut i: usize = 0;
+    while i < s.len() {
+        x = x ^ s[i];
+        i += 1;
+    }
+    x
+}
+
+// Can the block be carried, element 255: whole and well formed, no filler, ID not 1.
+fn carriable(block: &[u8]) -> bool
+    ensures { λ r. ⌜ r ≡ carriable (now (block .entry)) ⌝ }
+{
+    if block.len() < 3 {
+        return false;
+    }
+    if block[0] as usize != block.len() {
+        return false;
+    }
+    let id = word(block[1], block[2]);
+    if id == 0 {
+        return false;
+    }
+    if id == 1 {
+        return false;
+    }
+    if 100 < id {
+        return true;
+    }
+    if block.len() < 4 {
+        return false;
+    }
+    xor_all(block) == 0
+}
+
+// Have the bytes the shape of the element with this number; an unknown number has none.
+fn shaped(number: u32, s: &[u8]) -> bool
+    ensures { λ r. ⌜ r ≡ shape number (now (s .entry)) ⌝ }
+{
+    match number {
+        1 | 22 => some_text(s),
+        3 => fields::isil(s),
+        4 => set_info(s),
+        5 => s.len() == 1,
+        19 => media(s),
+        23 => fields::alternative(s),
+        255 => carriable(s),
+        _ => false,
+    }
+}
+
+// Have the bytes the form of the element with this number: its shape, in at most 255 bytes.
+fn has_form(number: u32, value: &[u8]) -> bool
+    ensures { λ r. ⌜ r ≡ form number (now (value .entry)) ⌝ }
+{
+    if 255 < value.len() {
+        return false;
+    }
+    shaped(number, value)
+}
+
+// Does editing take this number: one of the table other than 255.
+fn known(number: u32) -> bool
+    ensures { λ r. ⌜ r ≡ known number ⌝ }
+{
+    match number {
+        1 | 3 | 4 | 5 | 19 | 22 | 23 => true,
+        _ => false,
+    }
+}
+
+// Have the bytes the form of an element's number in a sheet; 255 is a carried block.
+pub fn formed(number: u8, value: &[u8]) -> bool
+    ensures { λ r. ⌜ r ≡ form number (now (value .entry)) ⌝ }
+{
+    has_form(number as u32, value)
+}
+
+// Does editing take this number, and are the bytes a value of it: no bytes means remove.
+pub fn editable(number: u32, bytes: &[u8]) -> bool
+    ensures { λ r. ⌜ r ≡ known number && value number (now (bytes .entry)) ⌝ }
+{
+    if !known(number) {
+        return false;
+    }
+    if bytes.len() == 0 {
+        return number != 4 && number != 5;
+    }
+    has_form(number, bytes)
+}

@@ -1,0 +1,4 @@
+pub mod Emitting
+pub mod Owners
+pub mod Libraries
+pub mod Placing

@@ -1,0 +1,17 @@
+-- `image::usage_behind` meets its contract.
+use borrow.Author.Tests.{eq-eqb, ne-eqb}
+use Rattle.format.specs.Elements.{numbers, placeIn, place}
+use Rattle.format.specs.Layout.{library}
+use Rattle.image.proofs.usage_behind.Statement.{statement}
+use Rattle.image.proofs.usage_behind.Tie as tie
+
+returns : tie.Need-returns
+unfolding library place placeIn numbers
+returns c = rw (eq-eqb _ 0 (c .if1 .taken))
+
+returns-2 : tie.Need-returns-2
+unfolding library place placeIn numbers
+returns-2 c = rw (ne-eqb _ 0 (c .if1 .left))
+
+pub usage-behind-spec : {M : Type 1} → statement M
+usage-behind-spec = tie.close (tie.spec returns returns-2)

@@ -1,0 +1,5 @@
+mod Text
+mod Lines
+pub mod Outcome
+pub mod Printed
+pub mod Examples

@@ -1,0 +1,47 @@
+-- `look::checked`: the two bytes are compared with those of the CRC, low byte first.
+use mathlib.Core.Path.{sym, ap, _∙_}
+use Prim.Native.Nat.{ℕ}
+use borrow.Author.Needs.{needs}
+use Rattle.format.specs.Bytes.{same, le16, part}
+use Rattle.look.proofs.Looking.{low-differs, high-decides}
+use Rattle.look.proofs.checked.Statement.{statement}
+use Rattle.look.proofs.checked.Tie as tie
+
+of-tag-requires : tie.Need-of-tag-requires
+of-tag-requires c κs = search needs
+
+shared-slice-read-if1 : tie.Need-shared-slice-read-if1
+shared-slice-read-if1 c = search needs
+
+cast-if1 : tie.Need-cast-if1
+cast-if1 c = search needs
+
+returns : tie.Need-returns
+returns c =
+    let s = c .before .before .before .before in
+    let t = s .args .tag .now in
+    sym (ap (λ (k : ℕ). same (part 19 2 t) (le16 k)) (sym (c .before .before .of-tag .ensures)) ∙ low-differs t (c .before .before .of-tag .result) (s .pre) (c .if1 .taken))
+
+shared-slice-read-result : tie.Need-shared-slice-read-result
+shared-slice-read-result c = search needs
+
+cast-result : tie.Need-cast-result
+cast-result c = search needs
+
+returns-2 : tie.Need-returns-2
+returns-2 c =
+    let s = c .before .before .before .before .before in
+    let t = s .args .tag .now in
+    sym (ap (λ (k : ℕ). same (part 19 2 t) (le16 k)) (sym (c .before .before .before .of-tag .ensures)) ∙ high-decides t (c .before .before .before .of-tag .result) (s .pre) (c .before .if1 .left) (search needs))
+
+pub checked-spec : {M : Type 1} → statement M
+checked-spec =
+    tie.close
+    (tie.spec
+    of-tag-requires
+    shared-slice-read-if1
+    cast-if1
+    returns
+    shared-slice-read-result
+    cast-result
+    returns-2)

@@ -1,0 +1,45 @@
+-- `look::view_of`: every part of the view is a stage's answer.
+use borrow.Author.Needs.{needs}
+use Rattle.look.proofs.Looking.{viewed}
+use Rattle.look.proofs.view_of.Statement.{statement}
+use Rattle.look.proofs.view_of.Tie as tie
+
+part-of-requires : tie.Need-part-of-requires
+part-of-requires c κs = search needs
+
+either-requires : tie.Need-either-requires
+either-requires c κs = search needs
+
+either-requires-2 : tie.Need-either-requires-2
+either-requires-2 c κs = search needs
+
+owner-of-requires : tie.Need-owner-of-requires
+owner-of-requires c κs = search needs
+
+usage-of-requires : tie.Need-usage-of-requires
+usage-of-requires c κs = search needs
+
+shared-slice-read-t18 : tie.Need-shared-slice-read-t18
+shared-slice-read-t18 c = search needs
+
+shared-slice-read-t20 : tie.Need-shared-slice-read-t20
+shared-slice-read-t20 c = search needs
+
+returns : tie.Need-returns
+returns c =
+    let s = c .before .before .before .before .before .before .before .before .before .before .before .before .before in
+    rw (c .before .before .before .before .before .before .before .either .ensures, c .before .before .before .before .before .before .either2 .ensures, c .before .before .before .before .before .before .before .before .part-of .ensures)
+    (viewed (s .args .tag .now) _ _ _ (s .pre .0) _ _ _ _ (c .before .before .before .before .before .owner-of .ensures) (c .before .before .usage-of .ensures) (s .pre .2))
+
+pub view-of-spec : {M : Type 1} → statement M
+view-of-spec =
+    tie.close
+    (tie.spec
+    part-of-requires
+    either-requires
+    either-requires-2
+    owner-of-requires
+    usage-of-requires
+    shared-slice-read-t18
+    shared-slice-read-t20
+    returns)

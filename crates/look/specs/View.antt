@@ -1,0 +1,50 @@
+-- What looking at a tag finds.
+use mathlib.Core.Path.{_≡_}
+use Prim.Native.Nat.{ℕ, _+_, _≤_}
+use mathlib.Core.Bool.{true}
+use mathlib.Core.List.{List, [], _∷_, _++_}
+use lib.ListN.{length}
+use lib.Dec.{eqb}
+use Rattle.format.specs.Answers.{got, refused, plain, Step, inOrder, need}
+use Rattle.format.specs.Bytes.{if_then_else_, part, joined}
+use Rattle.format.specs.Pages.{pageSize, goodSize}
+use Rattle.format.specs.Fields.{hyphen}
+use Rattle.format.specs.Elements.{el, setBytes}
+use Rattle.format.specs.Reading.{contentIn, tagSteps}
+use Rattle.format.specs.Slices.{Held}
+use Rattle.look.specs.declared.View.{View}
+use Rattle.look.specs.declared.Look.{Look}
+use Rattle.look.specs.declared.Look.the-variants.{Seen, Refused}
+
+-- the ISIL that a view tells of
+abbrev pub isilSeen : List ℕ → View → List ℕ
+isilSeen t v =
+    if eqb (v .prefix) 0 then part (v .isil .at) (v .isil .len) t
+    else part 21 (v .prefix) t ++ (hyphen ∷ part (v .isil .at) (v .isil .len) t)
+
+-- v tells what the tag t holds
+pub record Viewed (t : List ℕ) (v : View) : Type 0 where
+  pub item : Held t (v .item) (el (contentIn t) 1)
+  pub isil : isilSeen t v ≡ el (contentIn t) 3
+  pub isil-inside : v .isil .at + v .isil .len ≤ length t
+  pub isil-short : v .prefix ≤ 2
+  pub isil-fits : length (isilSeen t v) ≤ 16
+  pub set : setBytes (v .parts) (v .ordinal) ≡ el (contentIn t) 4
+  pub usage : v .usage ∷ [] ≡ el (contentIn t) 5
+  pub media : Held t (v .media) (el (contentIn t) 19)
+  pub second : Held t (v .second) (el (contentIn t) 22)
+  pub other : Held t (v .other) (el (contentIn t) 23)
+  pub count : v .count ≡ length (contentIn t .carried)
+  pub size : v .size ≡ length (joined (contentIn t .carried))
+
+-- the steps 1, 3, 4, 5, 6 and 7 in order
+abbrev pub lookSteps : List ℕ → List Step
+lookSteps t = need 1 (goodSize pageSize (length t)) ∷ tagSteps t
+
+abbrev pub judged : List ℕ → Step
+judged t = inOrder (lookSteps t) tt
+
+-- they are passed and v tells what the tag holds; or the first of them that refuses gives k
+pub data Looked (t : List ℕ) : Look → Type 0 where
+  seen : {v : View} → judged t ≡ got tt → Viewed t v → Looked t (Seen v)
+  refuses : {k : ℕ} → judged t ≡ refused (plain k) → Looked t (Refused k)

@@ -1,0 +1,441 @@
+use chain::Survey;
+use fields::ItemField;
+use fields::LibraryField;
+use fields::OwnerField;
+use format::Part;
+ghost use mathlib.Core.Path.{_≡_};
+ghost use mathlib.Core.Bool.{true};
+ghost use Prim.Native.Nat.{_+_, _≤_};
+ghost use mathlib.Core.List.{[], _∷_, _++_};
+ghost use lib.Dec.{eqb};
+ghost use lib.ListN.{length};
+ghost use Rattle.format.specs.Bytes.{if_then_else_, same, le16, part};
+ghost use Rattle.format.specs.Crc.{crc, covered};
+ghost use Rattle.format.specs.Fields.{hyphen, alternate};
+ghost use Rattle.format.specs.Chain.{libraryBlock};
+ghost use Rattle.format.specs.Elements.{el};
+ghost use Rattle.format.specs.Slices.{Held};
+ghost use Rattle.format.specs.Reading.{blocksIn, agree, ownerOn, contentIn};
+ghost use Rattle.fields.specs.Forms.{ownerForm};
+ghost use Rattle.look.specs.View.{Viewed, Looked};
+ghost use Rattle.look.specs.Looking.{Sized, lookNumber, BasicSays, basicNumber, partFrom, isilAt, IsilFits, ItemSays, OwnerHeld, OwnerStands, OwnerSays, LibraryStands, LibrarySays, FieldsStand, FieldsSay, Counted, laidInFront};
+
+// What a readable tag holds and where: parts of the tag that are elements in sheet form, none where a part has no bytes. The owner's
+// ISIL, where `prefix` is not 0, is that many bytes from byte 21, a hyphen, and the part `isil`; else the part alone.
+pub struct View {
+    pub item: Part,
+    pub prefix: usize,
+    pub isil: Part,
+    pub parts: u8,
+    pub ordinal: u8,
+    pub usage: u8,
+    pub media: Part,
+    pub second: Part,
+    pub other: Part,
+    pub count: usize,
+    pub size: usize,
+}
+
+// What looking at a tag finds: what it holds, or the number of the refusal.
+pub enum Look {
+    Seen(View),
+    Refused(u32),
+}
+
+// ---- looking at a tag
+
+// What the first stages find, size, content parameter and CRC: they are right, or the number of the refusal.
+enum Basic {
+    Right,
+    Refused(u32),
+}
+
+// What the item field holds: the marker, or else the item, in the part.
+struct ItemPlace {
+    marked: bool,
+    item: Part,
+}
+
+// The item field is good, or breaks its form.
+enum ItemFound {
+    Good(ItemPlace),
+    Bad,
+}
+
+// What the owner field holds: the marker, or else an owner that stands so as in a `View`, or none.
+struct OwnerPlace {
+    marked: bool,
+    prefix: usize,
+    isil: Part,
+    other: Part,
+}
+
+// The owner field is good, or breaks its form.
+enum OwnerFound {
+    Good(OwnerPlace),
+    Bad,
+}
+
+// Where block 1 has its media byte, item and owner; and its usage byte, 0 for none.
+struct LibraryPlace {
+    media: Part,
+    item: Part,
+    owner: Part,
+    usage: u8,
+}
+
+// Block 1's fields are good, or one breaks its form.
+enum LibraryFound {
+    Good(LibraryPlace),
+    Bad,
+}
+
+// All fields are good, or one breaks its form.
+enum FieldsFound {
+    Good(ItemPlace, OwnerPlace, LibraryPlace),
+    Bad,
+}
+
+// Do bytes 19 and 20 hold the CRC, low byte first?
+fn checked(tag: &[u8]) -> bool
+    requires { ⌜ Sized (now tag) ⌝ }
+    ensures { λ r. ⌜ r ≡ same (part 19 2 (now (tag .entry))) (le16 (crc (covered (now (tag .entry))))) ⌝ }
+{
+    let sum = crc::of_tag(tag);
+    if tag[19] != (sum % 256) as u8 {
+        return false;
+    }
+    tag[20] == (sum / 256) as u8
+}
+
+// The refusals 1, 3 and 4.
+fn basic_of(tag: &[u8]) -> Basic
+    ensures { λ r. ⌜ BasicSays (now (tag .entry)) r ⌝ }
+{
+    if !pages::good_size(tag.len()) {
+        return Basic::Refused(1);
+    }
+    if tag[0] % 16 != 1 {
+        return Basic::Refused(3);
+    }
+    if !checked(tag) {
+        return Basic::Refused(4);
+    }
+    Basic::Right
+}
+
+// The part of `len` bytes from `at`. One of no bytes begins at 0, so that it lies inside any tag.
+fn part_of(at: usize, len: usize) -> Part
+    ensures { λ r. ⌜ r ≡ partFrom at len ⌝ }
+{
+    if len == 0 {
+        return Part { at: 0, len: 0 };
+    }
+    Part { at, len }
+}
+
+// Where the item field, bytes 3 to 18, has its item.
+fn find_item(tag: &[u8]) -> ItemFound
+    requires { ⌜ Sized (now tag) ⌝ }
+    ensures { λ r. ⌜ ItemSays (now (tag .entry)) r ⌝ }
+{
+    let field = fields::item_in(&tag[3..19]);
+    match field {
+        ItemField::Text(n) => {
+            let item = part_of(3, n);
+            ItemFound::Good(ItemPlace {
+                marked: false,
+                item,
+            })
+        }
+        ItemField::Marked => {
+            let item = part_of(0, 0);
+            ItemFound::Good(ItemPlace { marked: true, item })
+        }
+        ItemField::Bad => ItemFound::Bad,
+    }
+}
+
+// The owner field, bytes 21 to 33, or to 31 where the tag has no more.
+fn owner_field(tag: &[u8]) -> OwnerField
+    requires { ⌜ Sized (now tag) ⌝ }
+    ensures { λ r. ⌜ r ≡ ownerForm (part 21 13 (now (tag .entry))) ⌝ }
+{
+    let len = tag.len();
+    if len < 34 {
+        return fields::owner_in(&tag[21..len]);
+    }
+    fields::owner_in(&tag[21..34])
+}
+
+// Where the owner field has its owner: from its third byte on, and an ISIL's prefix in front.
+fn find_owner(tag: &[u8]) -> OwnerFound
+    requires { ⌜ Sized (now tag) ⌝ }
+    ensures { λ r. ⌜ OwnerSays (now (tag .entry)) r ⌝ }
+{
+    let none = part_of(0, 0);
+    let field = owner_field(tag);
+    match field {
+        OwnerField::Nothing => OwnerFound::Good(OwnerPlace {
+            marked: false,
+            prefix: 0,
+            isil: none,
+            other: none,
+        }),
+        OwnerField::Marked => OwnerFound::Good(OwnerPlace {
+            marked: true,
+            prefix: 0,
+            isil: none,
+            other: none,
+        }),
+        OwnerField::Alternative(n) => {
+            let other = part_of(23, n);
+            OwnerFound::Good(OwnerPlace {
+                marked: false,
+                prefix: 0,
+                isil: none,
+                other,
+            })
+        }
+        OwnerField::Isil { prefix, unit } => {
+            let isil = part_of(23, unit);
+            OwnerFound::Good(OwnerPlace {
+                marked: false,
+                prefix,
+                isil,
+                other: none,
+            })
+        }
+        OwnerField::Bad => OwnerFound::Bad,
+    }
+}
+
+// The length of element 19: a media byte 00 is none.
+fn media_length(media: u8) -> usize
+    ensures { λ r. ⌜ r ≡ (if eqb media 0 then 0 else 1) ⌝ }
+{
+    if media == 0 { 0 } else { 1 }
+}
+
+// Where block 1 has its fields: the media byte is its byte 4, the item begins at byte 5, and the owner behind the 00 that follows it.
+fn find_library(tag: &[u8], block: Part) -> LibraryFound
+    requires { ⌜ Sized (now tag) × Held (now tag) block (libraryBlock (blocksIn (now tag))) ⌝ }
+    ensures { λ r. ⌜ LibrarySays (now (tag .entry)) r ⌝ }
+{
+    let at = block.at;
+    let end = at + block.len;
+    let LibraryField::Good(found) = fields::library_in(&tag[at..end]) else {
+        return LibraryFound::Bad;
+    };
+    let media = part_of(at + 4, media_length(found.media));
+    let item = part_of(at + 5, found.item);
+    let owner = part_of(at + 6 + found.item, found.owner);
+    LibraryFound::Good(LibraryPlace {
+        media,
+        item,
+        owner,
+        usage: found.usage,
+    })
+}
+
+// Refusal 6: is the ordinal above the parts, or does a field break its form? Else where the fields have their elements.
+fn find_fields(tag: &[u8], block: Part) -> FieldsFound
+    requires { ⌜ Sized (now tag) × Held (now tag) block (libraryBlock (blocksIn (now tag))) ⌝ }
+    ensures { λ r. ⌜ FieldsSay (now (tag .entry)) r ⌝ }
+{
+    if tag[1] < tag[2] {
+        return FieldsFound::Bad;
+    }
+    let ItemFound::Good(item) = find_item(tag) else {
+        return FieldsFound::Bad;
+    };
+    let OwnerFound::Good(owner) = find_owner(tag) else {
+        return FieldsFound::Bad;
+    };
+    let LibraryFound::Good(library) = find_library(tag, block) else {
+        return FieldsFound::Bad;
+    };
+    FieldsFound::Good(item, owner, library)
+}
+
+// Refusal 7: a marked item is present, an owner in block 1 stands exactly with the marker, a nonzero usage byte agrees with byte 0.
+fn agrees(tag: &[u8], item: ItemPlace, owner: OwnerPlace, library: LibraryPlace) -> bool
+    requires { ⌜ FieldsStand (now tag) item owner library ⌝ }
+    ensures { λ r. ⌜ r ≡ agree (now (tag .entry)) ⌝ }
+{
+    let block_item = library.item;
+    let block_owner = library.owner;
+    if item.marked && block_item.len == 0 {
+        return false;
+    }
+    if owner.marked != (block_owner.len != 0) {
+        return false;
+    }
+    library.usage == 0 || library.usage / 16 == tag[0] / 16
+}
+
+// Does this byte, 02 or 03, begin an alternative owner?
+fn begins_other(first: u8) -> bool
+    ensures { λ r. ⌜ r ≡ alternate (first ∷ []) ⌝ }
+{
+    2 <= first && first <= 3
+}
+
+// Where the owner stands: in block 1 if that has one, else as the owner field says.
+fn owner_of(tag: &[u8], owner: OwnerPlace, library: LibraryPlace) -> OwnerPlace
+    requires { ⌜ Sized (now tag) × OwnerStands (now tag) owner × LibraryStands (now tag) library × (agree (now tag) ≡ true) ⌝ }
+    ensures { λ r. ⌜ OwnerHeld (now (tag .entry)) r (ownerOn (now (tag .entry))) ⌝ }
+{
+    let found = library.owner;
+    if found.len == 0 {
+        return owner;
+    }
+    let at = found.at;
+    let none = part_of(0, 0);
+    if begins_other(tag[at]) {
+        OwnerPlace {
+            marked: false,
+            prefix: 0,
+            isil: none,
+            other: found,
+        }
+    } else {
+        OwnerPlace {
+            marked: false,
+            prefix: 0,
+            isil: found,
+            other: none,
+        }
+    }
+}
+
+// The one part where the test holds, else the other.
+fn either(test: bool, yes: Part, no: Part) -> Part
+    ensures { λ r. ⌜ r ≡ (if test then yes else no) ⌝ }
+{
+    if test { yes } else { no }
+}
+
+// Element 5: block 1's usage byte, or else the main qualifier of byte 0.
+fn usage_of(tag: &[u8], library: LibraryPlace) -> u8
+    requires { ⌜ Sized (now tag) × LibraryStands (now tag) library ⌝ }
+    ensures { λ r. ⌜ r ∷ [] ≡ el (contentIn (now (tag .entry))) 5 ⌝ }
+{
+    if library.usage == 0 {
+        tag[0] / 16 * 16
+    } else {
+        library.usage
+    }
+}
+
+// What a readable tag holds and where. Block 1's item is element 1 under the marker, else 22.
+fn view_of(
+    tag: &[u8],
+    item: ItemPlace,
+    owner: OwnerPlace,
+    library: LibraryPlace,
+    count: usize,
+    size: usize,
+) -> View
+    requires { ⌜ FieldsStand (now tag) item owner library × (agree (now tag) ≡ true) × Counted (now tag) count size ⌝ }
+    ensures { λ r. ⌜ Viewed (now (tag .entry)) r ⌝ }
+{
+    let here = item.item;
+    let block = library.item;
+    let media = library.media;
+    let none = part_of(0, 0);
+    let first = either(item.marked, block, here);
+    let second = either(item.marked, none, block);
+    let held = owner_of(tag, owner, library);
+    let isil = held.isil;
+    let other = held.other;
+    let usage = usage_of(tag, library);
+    View {
+        item: first,
+        prefix: held.prefix,
+        isil,
+        parts: tag[1],
+        ordinal: tag[2],
+        usage,
+        media,
+        second,
+        other,
+        count,
+        size,
+    }
+}
+
+// The number of a refusal, 0 for none.
+fn basic_number(b: Basic) -> u32
+    ensures { λ r. ⌜ r ≡ basicNumber b ⌝ }
+{
+    match b {
+        Basic::Right => 0,
+        Basic::Refused(k) => k,
+    }
+}
+
+// Looks at a tag: the refusals 1, 3, 4, 5, 6 and 7 in order, or what it holds and where.
+pub fn look_at(tag: &[u8]) -> Look
+    ensures { λ r. ⌜ Looked (now (tag .entry)) r ⌝ }
+{
+    let basic = basic_of(tag);
+    let Basic::Right = basic else {
+        return Look::Refused(basic_number(basic));
+    };
+    let Survey::Whole {
+        library,
+        length,
+        count,
+        size,
+    } = chain::survey_of(tag)
+    else {
+        return Look::Refused(5);
+    };
+    let block = Part {
+        at: library,
+        len: length,
+    };
+    let FieldsFound::Good(item, owner, fields) = find_fields(tag, block) else {
+        return Look::Refused(6);
+    };
+    if !agrees(tag, item, owner, fields) {
+        return Look::Refused(7);
+    }
+    Look::Seen(view_of(tag, item, owner, fields, count, size))
+}
+
+// The number of a refusal that looking gave, 0 for none.
+pub fn look_number(l: Look) -> u32
+    ensures { λ r. ⌜ r ≡ lookNumber l ⌝ }
+{
+    match l {
+        Look::Seen(_) => 0,
+        Look::Refused(k) => k,
+    }
+}
+
+// An ISIL's two sides with a hyphen between them, laid down at the front of `out`; answers their length together.
+fn hyphened(prefix: &[u8], unit: &[u8], out: &mut [u8]) -> usize
+    requires { ⌜ length (now prefix) + 1 + length (now unit) ≤ length (now out) ⌝ }
+    ensures { λ r. ⌜ laidInFront (now (prefix .entry) ++ (hyphen ∷ now (unit .entry))) (now (out .entry)) r (now (out .exit)) ⌝ }
+{
+    let at = bytes::copy(prefix, out);
+    out[at] = b'-';
+    let from = at + 1;
+    from + bytes::copy(unit, &mut out[from..])
+}
+
+// The owner's ISIL as a sheet has it, laid down at the front of `out`; answers its length, 0 where there is none.
+pub fn isil_of(tag: &[u8], prefix: usize, isil: Part, out: &mut [u8; 16]) -> usize
+    requires { ⌜ IsilFits (now tag) prefix isil ⌝ }
+    ensures { λ r. ⌜ laidInFront (isilAt (now (tag .entry)) prefix isil) (now (out .entry)) r (now (out .exit)) ⌝ }
+{
+    let at = isil.at;
+    let end = at + isil.len;
+    if prefix == 0 {
+        return bytes::copy(&tag[at..end], out);
+    }
+    let prefix_end = 21 + prefix;
+    hyphened(&tag[21..prefix_end], &tag[at..end], out)
+}

@@ -1,0 +1,4 @@
+pub mod Several
+pub mod Carrying
+pub mod Heads
+pub mod Rendering

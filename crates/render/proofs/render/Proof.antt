@@ -1,0 +1,249 @@
+-- `render::render` meets its contract: the count, the heads and the bytes are stored one behind the other, and are the sheet.
+use mathlib.Core.Path.{_≡_, refl, sym, ap, _∙_}
+use mathlib.Core.List.{List, [], _∷_, _++_}
+use Prim.Native.Nat.{ℕ, _+_, _*_, _/_, _%_, _≤_}
+use native.Mathlib.Omega.{arith}
+use lib.ListN.{length, set, length-set}
+use Rattle.format.specs.Bytes.{joined, le16}
+use Rattle.format.specs.Elements.{numbers}
+use Rattle.format.specs.Sheet.{Entry, heads, bodies, sheetOf, carriedEntries, entries}
+use Rattle.format.specs.Pieces.{stored}
+use Rattle.render.specs.Rendering.{carriedOn, numbered}
+use Rattle.format.proofs.Pieces.{stored-length, stored-front}
+use Rattle.chain.proofs.Laws.{carried-start, carried-room}
+use Rattle.render.proofs.Several.{stored-place, stored-all}
+use Rattle.render.proofs.Several.Stores.{none, more}
+use Rattle.render.proofs.Heads.{countAt, count-all, bodies-joined, sizes, length-joined}
+use Rattle.render.proofs.Rendering.{stored-count, sheet-joined, Measured, measured, rendered-two, rendered-done}
+use borrow.Author.Needs.{needs}
+use Rattle.render.proofs.render.Statement.{statement}
+use Rattle.render.proofs.render.Tie as tie
+
+-- the entries with a number of the table
+abbrev first : tie.Start → List Entry
+first e = let a = e .args in numbered (a .item .now) (a .isil .now) (a .set .now) (a .usage .now) (a .media .now) (a .second .now) (a .other .now)
+
+-- the bytes that they have together
+abbrev size : tie.Start → ℕ
+size e =
+    let a = e .args in
+    length (a .item .now) + length (a .isil .now) + length (a .set .now) + length (a .usage .now) + length (a .media .now) + length (a .second .now) + length (a .other .now)
+
+-- the place of the first call
+abbrev start : tie.After-numbered-count → tie.Start
+start k = k .before .before .before .before .before .before .before .before .before .before
+
+measures : (k : tie.After-numbered-count) → let e = start k in Measured (first e) (carriedOn (e .args .tag .now)) (k .numbered-count .result) (e .args .count) (size e) (e .args .size)
+unfolding numbers countAt sizes
+measures k =
+    let e = start k in
+    let a = e .args in
+    let ss : List (List ℕ) = a .item .now ∷ a .isil .now ∷ a .set .now ∷ a .usage .now ∷ a .media .now ∷ a .second .now ∷ a .other .now ∷ [] in
+    measured (first e) (carriedOn (a .tag .now)) (k .numbered-count .result) (a .count) (size e) (a .size)
+    (omega (arith, k .numbered-count .ensures, count-all numbers ss)) (omega (arith, ap length (bodies-joined numbers ss refl), length-joined ss)) (e .pre .2) (e .pre .3)
+
+-- no sum here passes 65,535
+bounds : (k : tie.After-numbered-count) → let e = start k in 2 + 4 * (k .numbered-count .result + e .args .count) + size e + e .args .size ≤ 65535
+bounds k =
+    let e = start k in
+    let t = e .args .tag .now in
+    omega (arith, k .numbered-count .ensures, e .pre, carried-room t 34 (carriedOn t) (carried-start t (e .pre .0)))
+
+-- the number of all entries, and the buffer with that number
+abbrev count : tie.After-numbered-count → ℕ
+count k = k .numbered-count .result + start k .args .count
+
+abbrev counted : tie.After-numbered-count → List ℕ
+counted k = set (set (start k .args .sheet .now) 0 (count k % 256)) 1 (count k / 256 % 256)
+
+-- the place behind each piece, and the buffer's length
+
+after-heads : (c : tie.After-numbered-heads) → let k = c .before .before .before .before in
+    (c .numbered-heads .result ≡ 2 + 4 * k .numbered-count .result) × (length (c .numbered-heads .last .0) ≡ length (start k .args .sheet .now))
+after-heads c =
+    let k = c .before .before .before .before in
+    let e = start k in
+    let l : length (counted k) ≡ length (e .args .sheet .now) = simp length-set in
+    let p = stored-place (counted k) (heads (2 + 4 * count k) (first e)) (c .numbered-heads .last .0) 2 (c .numbered-heads .result) (4 * k .numbered-count .result)
+    (measures k .first-heads (2 + 4 * count k)) (omega (arith, l, c .before .before .if2 .left)) (c .numbered-heads .ensures) in
+    (p .0, p .1 ∙ l)
+
+after-carried : (c : tie.After-carried-heads) → let k = c .before .before .before .before .before .before .before .before in
+    (c .carried-heads .result ≡ 2 + 4 * count k) × (length (c .carried-heads .last .1 .0) ≡ length (start k .args .sheet .now))
+after-carried c =
+    let h = c .before .before .before .before in
+    let k = h .before .before .before .before in
+    let e = start k in
+    let b = after-heads h in
+    let p = stored-place (h .numbered-heads .last .0) (heads (2 + 4 * count k + size e) (carriedEntries (carriedOn (e .args .tag .now)))) (c .carried-heads .last .1 .0)
+    (h .numbered-heads .result) (c .carried-heads .result) (4 * e .args .count)
+    (measures k .carried-heads (2 + 4 * count k + size e)) (omega (arith, b, h .before .before .if2 .left)) (c .carried-heads .ensures) in
+    (omega (arith, b, p .0), p .1 ∙ b .1)
+
+after-bytes : (c : tie.After-numbered-bytes) → let k = c .before .before .before .before .before .before .before .before .before .before .before .before in
+    (c .numbered-bytes .result ≡ 2 + 4 * count k + size (start k)) × (length (c .numbered-bytes .last .0) ≡ length (start k .args .sheet .now))
+after-bytes c =
+    let i = c .before .before .before .before in
+    let h = i .before .before .before .before in
+    let k = h .before .before .before .before in
+    let e = start k in
+    let b = after-carried i in
+    let p = stored-place (i .carried-heads .last .1 .0) (bodies (first e)) (c .numbered-bytes .last .0) (i .carried-heads .result) (c .numbered-bytes .result) (size e)
+    (sym (measures k .bytes)) (omega (arith, b, h .before .before .if2 .left)) (c .numbered-bytes .ensures) in
+    (omega (arith, b, p .0), p .1 ∙ b .1)
+
+-- all entries of the sheet
+abbrev all : tie.Start → List Entry
+all e = first e ++ carriedEntries (carriedOn (e .args .tag .now))
+
+-- the place where the buffer has room for all
+abbrev roomy : tie.After-gather → tie.Else2
+roomy c = c .before .before .before .before .before .before .before .before .before .before .before .before .before .before
+
+room : (c : tie.After-gather) → let e = start (roomy c .before .before) in length (sheetOf (all e)) ≤ length (e .args .sheet .now)
+room c = omega (arith, measures (roomy c .before .before) .total, roomy c .if2 .left)
+
+after-gather : (c : tie.After-gather) → let e = start (roomy c .before .before) in stored (e .args .sheet .now) 0 (sheetOf (all e)) (c .gather .result) (c .gather .last .1 .0)
+after-gather c =
+    let j = c .before .before .before .before in
+    let i = j .before .before .before .before in
+    let h = i .before .before .before .before in
+    let k = h .before .before .before .before in
+    let e = start k in
+    let cs = carriedOn (e .args .tag .now) in
+    let m = measures k in
+    stored-all (e .args .sheet .now) (c .gather .last .1 .0) (sheetOf (all e))
+    (le16 (count k) ∷ heads (2 + 4 * count k) (first e) ∷ heads (2 + 4 * count k + size e) (carriedEntries cs) ∷ bodies (first e) ∷ joined cs ∷ [])
+    0 (c .gather .result) (sheet-joined (first e) cs (count k) (size e) (m .entries) (m .bytes)) (omega (arith, room c))
+    (more (stored-count (e .args .sheet .now) (count k) (omega (arith, room c, m .total)))
+    (more (h .numbered-heads .ensures) (more (i .carried-heads .ensures) (more (j .numbered-bytes .ensures) (more (c .gather .ensures) none)))))
+
+numbered-count-requires : tie.Need-numbered-count-requires
+numbered-count-requires c κs = search needs
+
+add-n : tie.Need-add-n
+add-n c = omega (arith, bounds c)
+
+mul-offset : tie.Need-mul-offset
+mul-offset c = omega (arith, bounds c)
+
+add-offset : tie.Need-add-offset
+add-offset c = omega (arith, bounds c)
+
+add-bytes : tie.Need-add-bytes
+add-bytes c = search needs
+
+add-bytes-2 : tie.Need-add-bytes-2
+add-bytes-2 c = search needs
+
+add-bytes-3 : tie.Need-add-bytes-3
+add-bytes-3 c = search needs
+
+add-bytes-4 : tie.Need-add-bytes-4
+add-bytes-4 c = search needs
+
+add-bytes-5 : tie.Need-add-bytes-5
+add-bytes-5 c = search needs
+
+add-bytes-6 : tie.Need-add-bytes-6
+add-bytes-6 c = search needs
+
+add-carried : tie.Need-add-carried
+add-carried c = omega (arith, bounds c)
+
+add-end : tie.Need-add-end
+add-end c = omega (arith, bounds c)
+
+returns : tie.Need-returns
+returns c = absurd (omega (arith, c .if1 .taken, bounds (c .before)))
+
+returns-2 : tie.Need-returns-2
+unfolding entries
+returns-2 c =
+    let k = c .before .before in
+    let e = start k in
+    let m = measures k in
+    rendered-two (all e) (e .args .sheet .now) (omega (arith, m .total, bounds k)) (omega (arith, m .total, c .if2 .taken))
+
+cast-sheet : tie.Need-cast-sheet
+cast-sheet c = search needs
+
+slice-write-sheet : tie.Need-slice-write-sheet
+slice-write-sheet c = search needs
+
+cast-sheet-2 : tie.Need-cast-sheet-2
+cast-sheet-2 c = search needs
+
+slice-write-sheet-2 : tie.Need-slice-write-sheet-2
+slice-write-sheet-2 c = simp length-set (omega (arith, c .if2 .left))
+
+numbered-heads-requires : tie.Need-numbered-heads-requires
+numbered-heads-requires c κs =
+    let k = c .before .before .before in
+    let e = start k in
+    (e .pre .4, omega (arith, bounds k), simp length-set (omega (arith, k .numbered-count .ensures, c .before .if2 .left)))
+
+carried-heads-requires : tie.Need-carried-heads-requires
+carried-heads-requires c κs =
+    let h = c .before .before .before in
+    let k = h .before .before .before .before in
+    let e = start k in (
+      e .pre .0,
+      e .pre .1,
+      omega (arith, bounds k),
+      omega (arith, after-heads h, measures k .carried-heads (2 + 4 * count k + size e), h .before .before .if2 .left),
+    )
+
+numbered-bytes-requires : tie.Need-numbered-bytes-requires
+numbered-bytes-requires c κs = let i = c .before .before .before in omega (arith, after-carried i, i .before .before .before .before .before .before .if2 .left)
+
+gather-requires : tie.Need-gather-requires
+gather-requires c κs =
+    let j = c .before .before .before in
+    let k = j .before .before .before .before .before .before .before .before .before .before .before .before in
+    let e = start k in
+    (e .pre .0, omega (arith, after-bytes j, e .pre .3, k .numbered-count .ensures .0, j .before .before .before .before .before .before .before .before .before .before .if2 .left))
+
+returns-3 : tie.Need-returns-3
+unfolding entries
+returns-3 c =
+    let g = c .before .before in
+    let k = roomy g .before .before in
+    let e = start k in
+    let f = stored-front (e .args .sheet .now) (g .gather .last .1 .0) (sheetOf (all e)) (g .gather .result) (after-gather g) in
+    rendered-done (all e) (e .args .sheet .now) (omega (arith, measures k .total, bounds k)) (g .gather .result) (g .gather .last .1 .0) (room g) (f .0) (f .1)
+
+same-length : tie.Need-same-length
+same-length c =
+    let g = c .before .before in
+    let e = start (roomy g .before .before) in
+    stored-length (e .args .sheet .now) (sheetOf (all e)) (g .gather .last .1 .0) 0 (g .gather .result) (omega (arith, room g)) (after-gather g)
+
+pub render-spec : {M : Type 1} → statement M
+render-spec =
+    tie.close
+    (tie.spec
+    numbered-count-requires
+    add-n
+    mul-offset
+    add-offset
+    add-bytes
+    add-bytes-2
+    add-bytes-3
+    add-bytes-4
+    add-bytes-5
+    add-bytes-6
+    add-carried
+    add-end
+    returns
+    returns-2
+    cast-sheet
+    slice-write-sheet
+    cast-sheet-2
+    slice-write-sheet-2
+    numbered-heads-requires
+    carried-heads-requires
+    numbered-bytes-requires
+    gather-requires
+    same-length
+    returns-3)

@@ -1,0 +1,76 @@
+-- What judging a sheet answers, from the tests one after the other.
+use mathlib.Core.Path.{_≡_, refl, sym, ap₂, _∙_}
+use Prim.Native.Nat.{ℕ, suc}
+use native.Mathlib.Omega.{arith}
+use mathlib.Core.Bool.{true, false, not, _&&_}
+use mathlib.Core.List.{List, [], _∷_}
+use lib.Dec.{eqb}
+use lib.ListN.{length}
+use borrow.Author.Tests.{eq-eqb, ne-eqb}
+use Rattle.format.specs.Answers.{plain, got, refused}
+use Rattle.format.specs.Bytes.{if_then_else_, isEmpty, all}
+use Rattle.format.specs.Elements.{numbers}
+use Rattle.format.specs.Sheet.{Entry, entriesIn, rightSheet, find, formed, goodValues}
+use Rattle.format.specs.declared.Part.{Part}
+use Rattle.format.proofs.Answers.{next-ok, next-no, none-ok}
+use Rattle.sheet.specs.Heads.{Sought}
+use Rattle.sheet.specs.Scanning.{bodyIn, startOf, placeOf, placesIn, scanning}
+
+-- ---- where an element stands
+
+abbrev place : ℕ → ℕ → List ℕ → Part
+place n start bytes = record { at = if isEmpty bytes then 0 else start; len = length bytes }
+
+pub place-none : (s : List ℕ) (n : ℕ) → length (find n (entriesIn s)) ≡ 0 → record { at = 0; len = 0 } ≡ placeOf s n
+unfolding placeOf
+place-none s n e = go (find n (entriesIn s)) e
+  where
+    go : (bytes : List ℕ) → length bytes ≡ 0 → record { at = 0; len = 0 } ≡ place n (startOf n (bodyIn s) (entriesIn s)) bytes
+    go [] h = refl
+    go (x ∷ bytes) h = absurd (omega arith)
+
+pub place-some : (s : List ℕ) (n : ℕ) (p : Part) → Sought s n p → (p .len ≡ 0 → ⊥)
+    → p ≡ placeOf s n
+unfolding placeOf
+place-some s n p k some = go (find n (entriesIn s)) (k .length-is)
+  where
+    go : (bytes : List ℕ) → p .len ≡ length bytes → p ≡ place n (startOf n (bodyIn s) (entriesIn s)) bytes
+    go [] h = absurd (some h)
+    go (x ∷ bytes) h = ap₂ (λ (a l : ℕ). record { at = a; len = l }) (k .start-is) h
+
+-- ---- the answer
+
+pub scan-wrong : (s : List ℕ) → rightSheet s ≡ false → refused (plain 8) ≡ scanning s
+unfolding scanning
+scan-wrong s e = sym (next-no 8 (rightSheet s) _ (placesIn s) e)
+
+pub scan-bad : (s : List ℕ) → rightSheet s ≡ true → goodValues (entriesIn s) ≡ false → refused (plain 9) ≡ scanning s
+unfolding scanning
+scan-bad s e g = sym (next-ok 8 (rightSheet s) _ (placesIn s) e ∙ next-no 9 (goodValues (entriesIn s)) _ (placesIn s) g)
+
+pub scan-got : (s : List ℕ) → rightSheet s ≡ true → goodValues (entriesIn s) ≡ true → got (placesIn s) ≡ scanning s
+unfolding scanning
+scan-got s e g = sym (next-ok 8 (rightSheet s) _ (placesIn s) e ∙ next-ok 9 (goodValues (entriesIn s)) _ (placesIn s) g ∙ none-ok (placesIn s))
+
+-- ---- the values
+
+-- besides the forms, 4 and 5 have to be there
+values-are : (es : List Entry) → goodValues es ≡ all formed es && (not (isEmpty (find 4 es)) && (not (isEmpty (find 5 es)) && true))
+unfolding goodValues all numbers
+values-are es = refl
+
+empty-length : (s : List ℕ) → isEmpty s ≡ eqb (length s) 0
+empty-length [] = refl
+empty-length (x ∷ s) = sym (ne-eqb (suc (length s)) 0 (omega arith))
+
+pub unformed-bad : (es : List Entry) → all formed es ≡ false → goodValues es ≡ false
+unformed-bad es e = values-are es ∙ rw e
+
+pub no-set-bad : (es : List Entry) → all formed es ≡ true → length (find 4 es) ≡ 0 → goodValues es ≡ false
+no-set-bad es e z = values-are es ∙ rw (e, empty-length (find 4 es), eq-eqb (length (find 4 es)) 0 z)
+
+pub no-usage-bad : (es : List Entry) → all formed es ≡ true → (length (find 4 es) ≡ 0 → ⊥) → length (find 5 es) ≡ 0 → goodValues es ≡ false
+no-usage-bad es e h z = values-are es ∙ rw (e, empty-length (find 4 es), ne-eqb (length (find 4 es)) 0 h, empty-length (find 5 es), eq-eqb (length (find 5 es)) 0 z)
+
+pub all-good : (es : List Entry) → all formed es ≡ true → (length (find 4 es) ≡ 0 → ⊥) → (length (find 5 es) ≡ 0 → ⊥) → goodValues es ≡ true
+all-good es e h k = values-are es ∙ rw (e, empty-length (find 4 es), ne-eqb (length (find 4 es)) 0 h, empty-length (find 5 es), ne-eqb (length (find 5 es)) 0 k)

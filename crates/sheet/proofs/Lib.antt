@@ -1,0 +1,4 @@
+pub mod Heads
+pub mod Walking
+pub mod Answering
+pub mod Placed

@@ -1,0 +1,213 @@
+-- What a scan tells its caller: the values of a good sheet, and that each element stands where the scan tells.
+use mathlib.Core.Path.{_≡_, refl, sym, ap, _∙_}
+use Prim.Native.Nat.{ℕ, _+_, _≤_, _<_}
+use native.Mathlib.Omega.{arith}
+use mathlib.Core.Bool.{Bool, true, false}
+use mathlib.Core.List.{List, [], _∷_, _++_}
+use lib.Dec.{eqb, ltb, leb, lit<}
+use lib.ListN.{length, take, drop, getD, length-append, length-drop}
+use lib.Seq.{length-take-le, drop-drop, drop-at, take-append-seam, drop-append-seam}
+use borrow.Author.Tests.{eqb-false, eq-eqb, ltb-true, ltb-false, leb-true, le-leb, ne-eqb}
+use Rattle.format.specs.Answers.{Refusal, got, refused, Step, need, inOrder}
+use Rattle.format.specs.Bytes.{if_then_else_, isEmpty, all, part, joined, le16}
+use Rattle.format.specs.Elements.{numbers, form, value, placeIn, place, el}
+use Rattle.format.specs.Sheet.{Entry, heads, bodies, bodyAt, sheetOf, countIn, entriesIn, rightSheet, find, carriedIn, contentOf, formed, goodValues}
+use Rattle.format.specs.Slices.{elements, Valued, Held}
+use Rattle.format.specs.Calls.{sheetContent}
+use Rattle.format.specs.declared.Part.{Part}
+use Rattle.format.proofs.Tests.{and-l, and-r, and-i, all-mono}
+use Rattle.format.proofs.Answers.{next-inv, none-inv, refused-on, passed-on}
+use Rattle.format.proofs.Sheets.{length-heads, sheet-right}
+use Rattle.format.proofs.Slots.{values-at}
+use Rattle.format.proofs.Entries.{values-parts, find-values, carried-forms}
+use Rattle.elements.proofs.Numbers.{form-byte}
+use Rattle.sheet.specs.declared.Places.{Places}
+use Rattle.sheet.specs.Heads.{least}
+use Rattle.sheet.specs.Scanning.{bodyIn, startOf, placeOf, placesIn, scanning}
+use Rattle.sheet.proofs.Heads.{rises, byteNumbers, rising-rises, length-cut, right-body}
+use Rattle.sheet.proofs.Walking.{find-above, least-above}
+
+-- ---- entries in a row: the bytes of each stand where the lengths before it tell
+
+-- the entry with number n, where the bytes of some entries run from `at` on
+record Stands (s : List ℕ) (n at : ℕ) (es : List Entry) : Type 0 where
+  is : part (startOf n at es) (length (find n es)) s ≡ find n es
+  inside : startOf n at es + length (find n es) ≤ at + length (bodies es)
+
+module _ (s : List ℕ) where
+  -- the bytes behind the first entry's
+  next-bytes : (at : ℕ) (b r : List ℕ) → drop at s ≡ b ++ r → drop (at + length b) s ≡ r
+  next-bytes at b r e = sym (drop-drop (length b) at s) ∙ ap (drop (length b)) e ∙ drop-append-seam b r
+
+  stands : (n low at : ℕ) (es : List Entry) → drop at s ≡ bodies es → rises low es ≡ true → Stands s n at es
+  unfolding startOf find bodies rises
+  stands n low at [] e r = record { is = refl; inside = omega arith }
+  stands n low at (x ∷ es) e r =
+      go (ltb (x .number) n) refl (eqb (x .number) n) refl
+      (stands n (least (x .number)) (at + length (x .bytes)) es (next-bytes at (x .bytes) (bodies es) e) behind)
+    where
+      behind : rises (least (x .number)) es ≡ true
+      behind = and-r (leb low (x .number)) (rises (least (x .number)) es) r
+
+      go : (t : Bool) → ltb (x .number) n ≡ t → (u : Bool) → eqb (x .number) n ≡ u → Stands s n (at + length (x .bytes)) es → Stands s n at (x ∷ es)
+      go true p u q ih =
+          let skip : eqb (x .number) n ≡ false = ne-eqb (x .number) n (omega (arith, ltb-true (x .number) n p)) in
+          record {
+            is = rw (p, skip) (ih .is);
+            inside = rw (p, skip) (omega (arith, ih .inside, length-append (x .bytes) (bodies es)));
+          }
+      go false p true q ih =
+          record {
+            is = rw (p, q) (ap (take (length (x .bytes))) e ∙ take-append-seam (x .bytes) (bodies es));
+            inside = rw (p, q) (omega (arith, length-append (x .bytes) (bodies es)));
+          }
+      go false p false q ih =
+          let above : n < x .number = omega (arith, ltb-false (x .number) n p, eqb-false (x .number) n q) in
+          let none : find n es ≡ [] = find-above n (least (x .number)) es (least-above n (x .number) above) behind in
+          record { is = rw (p, q, none) refl; inside = rw (p, q, none) (omega arith) }
+
+  -- from 255 on, all are carried blocks
+  all-carried : (es : List Entry) → rises 255 es ≡ true → byteNumbers es ≡ true → bodies es ≡ joined (carriedIn es)
+  unfolding rises all bodies carriedIn joined least
+  all-carried [] r b = refl
+  all-carried (x ∷ es) r b =
+      let lo : 255 ≤ x .number = leb-true 255 (x .number) (and-l (leb 255 (x .number)) (rises (least (x .number)) es) r) in
+      let hi : x .number ≤ 255 = leb-true (x .number) 255 (and-l (leb (x .number) 255) (byteNumbers es) b) in
+      let is : x .number ≡ 255 = omega arith in
+      let behind : rises 255 es ≡ true = rw (eq-eqb (x .number) 255 is) at (and-r (leb 255 (x .number)) (rises (least (x .number)) es) r) in
+      rw (eq-eqb (x .number) 255 is) (ap (λ (t : List ℕ). x .bytes ++ t) (all-carried es behind (and-r (leb (x .number) 255) (byteNumbers es) b)))
+
+  carried-stand : (low at : ℕ) (es : List Entry) → drop at s ≡ bodies es → rises low es ≡ true → byteNumbers es ≡ true
+      → drop (startOf 255 at es) s ≡ joined (carriedIn es)
+  unfolding startOf carriedIn bodies rises all joined
+  carried-stand low at [] e r b = e
+  carried-stand low at (x ∷ es) e r b =
+      go (ltb (x .number) 255) refl
+      (carried-stand (least (x .number)) (at + length (x .bytes)) es (next-bytes at (x .bytes) (bodies es) e) behind (and-r (leb (x .number) 255) (byteNumbers es) b))
+    where
+      behind : rises (least (x .number)) es ≡ true
+      behind = and-r (leb low (x .number)) (rises (least (x .number)) es) r
+
+      go : (t : Bool) → ltb (x .number) 255 ≡ t → drop (startOf 255 (at + length (x .bytes)) es) s ≡ joined (carriedIn es)
+          → drop (startOf 255 at (x ∷ es)) s ≡ joined (carriedIn (x ∷ es))
+      go true p ih = rw (p, ne-eqb (x .number) 255 (omega (arith, ltb-true (x .number) 255 p))) ih
+      go false p ih =
+          let a : rises 255 (x ∷ es) ≡ true = and-i (le-leb 255 (x .number) (ltb-false (x .number) 255 p)) behind in
+          rw p (e ∙ all-carried (x ∷ es) a b)
+
+-- ---- a right sheet with good values
+
+-- each number has a form, so it is a byte
+numbers-fit : (es : List Entry) → all formed es ≡ true → byteNumbers es ≡ true
+numbers-fit es f = all-mono formed (λ (e : Entry). leb (e .number) 255) (λ e h. le-leb (e .number) 255 (form-byte (e .number) (e .bytes) h)) es f
+
+-- behind the header come the bytes of the entries
+body-is : (s : List ℕ) → rightSheet s ≡ true → drop (bodyIn s) s ≡ bodies (entriesIn s)
+unfolding entriesIn sheetOf le16
+body-is s e =
+    let es : List Entry = entriesIn s in
+    let n : length es ≡ countIn s = length-cut (countIn s) (drop 2 s) (drop (bodyIn s) s) in
+    let front : List ℕ = le16 (length es) ++ heads (bodyAt (length es)) es in
+    ap (drop (bodyIn s)) (sym (sheet-right s e .sheet)) ∙ drop-at front (bodies es) (bodyIn s) (omega (arith, n, length-heads (bodyAt (length es)) es))
+
+-- a part that is held is as long as it says
+pub held-length : (t : List ℕ) (p : Part) (s : List ℕ) → Held t p s → length s ≡ p .len
+held-length t p s h = sym (ap length (h .is)) ∙ length-take-le (p .len) (drop (p .at) t) (omega (arith, h .inside, length-drop (p .at) t))
+
+-- element n of the sheet s
+abbrev pub elOf : List ℕ → ℕ → List ℕ
+elOf s n = el (sheetContent s) n
+
+-- what a scan that gave p tells of the sheet s
+pub record GoodSheet (s : List ℕ) (p : Places) : Type 0 where
+  pub right : rightSheet s ≡ true
+  pub good : goodValues (entriesIn s) ≡ true
+  pub content : elements (elOf s 1) (elOf s 3) (elOf s 4) (elOf s 5) (elOf s 19) (elOf s 22) (elOf s 23) (sheetContent s .carried) ≡ sheetContent s
+  pub values : Valued (elOf s 1) (elOf s 3) (elOf s 4) (elOf s 5) (elOf s 19) (elOf s 22) (elOf s 23)
+  pub blocks : all (form 255) (sheetContent s .carried) ≡ true
+  pub item : Held s (p .item) (elOf s 1)
+  pub isil : Held s (p .isil) (elOf s 3)
+  pub set : Held s (p .set) (elOf s 4)
+  pub usage : Held s (p .usage) (elOf s 5)
+  pub media : Held s (p .media) (elOf s 19)
+  pub second : Held s (p .second) (elOf s 22)
+  pub other : Held s (p .other) (elOf s 23)
+  pub carried-is : drop (p .carried) s ≡ joined (sheetContent s .carried)
+  pub carried-inside : p .carried ≤ length s
+
+module _ (s : List ℕ) (right : rightSheet s ≡ true) (good : goodValues (entriesIn s) ≡ true) where
+  fits : byteNumbers (entriesIn s) ≡ true
+  fits = numbers-fit (entriesIn s) (values-parts (entriesIn s) good .0)
+
+  order : rises 0 (entriesIn s) ≡ true
+  order = sym (rising-rises (entriesIn s) fits) ∙ sheet-right s right .order
+
+  -- where the bytes of the entry with a number stand
+  found : (n : ℕ) → Held s (placeOf s n) (find n (entriesIn s))
+  unfolding placeOf
+  found n = go (find n (entriesIn s)) (k .is) (omega (arith, k .inside, right-body s right))
+    where
+      k : Stands s n (bodyIn s) (entriesIn s)
+      k = stands s n 0 (bodyIn s) (entriesIn s) (body-is s right) order
+
+      start : ℕ
+      start = startOf n (bodyIn s) (entriesIn s)
+
+      go : (b : List ℕ) → part start (length b) s ≡ b → start + length b ≤ length s
+          → Held s (record { at = if isEmpty b then 0 else start; len = length b }) b
+      go [] e h = record { inside = omega arith; is = refl }
+      go (x ∷ b) e h = record { inside = h; is = e }
+
+  -- at each place of the table stands a value of its number
+  valued : (i : ℕ) → i < length numbers → value (getD numbers i 0) (getD (sheetContent s .slots) i []) ≡ true
+  unfolding contentOf
+  valued i h = let v = values-parts (entriesIn s) good in values-at numbers _ (find-values numbers (entriesIn s) (v .0) (v .1)) i h
+
+  pub good-sheet : GoodSheet s (placesIn s)
+  unfolding placesIn numbers place placeIn contentOf
+  good-sheet =
+      record {
+        right = right;
+        good = good;
+        content = refl;
+        values = record {
+          v1 = valued 0 (lit< tt);
+          v3 = valued 1 (lit< tt);
+          v4 = valued 2 (lit< tt);
+          v5 = valued 3 (lit< tt);
+          v19 = valued 4 (lit< tt);
+          v22 = valued 5 (lit< tt);
+          v23 = valued 6 (lit< tt);
+        };
+        blocks = carried-forms (entriesIn s) (values-parts (entriesIn s) good .0);
+        item = found 1;
+        isil = found 3;
+        set = found 4;
+        usage = found 5;
+        media = found 19;
+        second = found 22;
+        other = found 23;
+        carried-is = carried-stand s 0 (bodyIn s) (entriesIn s) (body-is s right) order fits;
+        carried-inside = omega (arith, stands s 255 0 (bodyIn s) (entriesIn s) (body-is s right) order .inside, right-body s right);
+      }
+
+-- ---- what a caller of the scan cites
+
+pub scan-good : (s : List ℕ) (p : Places) → scanning s ≡ got p → GoodSheet s p
+unfolding scanning
+scan-good s p e =
+    let a = next-inv 8 (rightSheet s) _ (placesIn s) p e in
+    let b = next-inv 9 (goodValues (entriesIn s)) _ (placesIn s) p (a .1) in
+    rw (none-inv (placesIn s) p (b .1)) at (good-sheet s (a .0) (b .0))
+
+-- where the sheet is good, the steps behind 8 and 9 decide
+pub scan-passes : {A : Type 0} (s : List ℕ) (p : Places) (more : List Step) (a : A) → scanning s ≡ got p
+    → inOrder (need 8 (rightSheet s) ∷ need 9 (goodValues (entriesIn s)) ∷ more) a ≡ inOrder more a
+unfolding scanning
+scan-passes s p more a e = passed-on (need 8 (rightSheet s) ∷ need 9 (goodValues (entriesIn s)) ∷ []) more (placesIn s) p a e
+
+-- and a refusal of the sheet is the call's
+pub scan-refuses : {A : Type 0} (s : List ℕ) (x : Refusal) (more : List Step) (a : A) → scanning s ≡ refused x
+    → inOrder (need 8 (rightSheet s) ∷ need 9 (goodValues (entriesIn s)) ∷ more) a ≡ refused x
+unfolding scanning
+scan-refuses s x more a e = refused-on (need 8 (rightSheet s) ∷ need 9 (goodValues (entriesIn s)) ∷ []) more (placesIn s) a x e

@@ -1,0 +1,104 @@
+-- The invariant: the heads that come decide whether the sheet is right. The measure is how many come.
+use Prim.Native.Nat.{_-_}
+use native.Mathlib.Omega.{arith}
+use borrow.Author.Needs.{needs}
+use Rattle.format.proofs.Tests.{bytes-all}
+use Rattle.sheet.proofs.Heads.{short-wrong}
+use Rattle.sheet.proofs.Walking.{Checking, checking-start, checking-low, checking-offset, checking-on, checking-end}
+use Rattle.sheet.proofs.right.Statement.{statement}
+use Rattle.sheet.proofs.right.Tie as tie
+
+abbrev Inv-loop : tie.InvT-loop
+Inv-loop sheet count at₀ least₀ i₀ at least i = Checking sheet at least i
+
+abbrev μ-loop : tie.MeasureT-loop
+μ-loop sheet count at₀ least₀ i₀ at least i = count - i
+
+returns : tie.Need-returns Inv-loop μ-loop
+returns c = short-wrong (c .before .before .args .sheet .now) (omega arith)
+
+count-requires : tie.Need-count-requires Inv-loop μ-loop
+count-requires c κs = search needs
+
+mul-at : tie.Need-mul-at Inv-loop μ-loop
+mul-at c = search needs
+
+add-at : tie.Need-add-at Inv-loop μ-loop
+add-at c = search needs
+
+returns-2 : tie.Need-returns-2 Inv-loop μ-loop
+returns-2 c = short-wrong (c .before .before .before .before .args .sheet .now) (omega arith)
+
+loop-holds : tie.Need-loop-holds Inv-loop μ-loop
+loop-holds c =
+    let s = c .before .before .before .before .args .sheet .now in
+    let e = c .before .count .ensures .0 in
+    rw e (checking-start s (bytes-all s (λ i h. c .before .before .before .shared-slice-known .given i .fits)) (omega arith))
+
+head-at-requires : tie.Need-head-at-requires Inv-loop μ-loop
+head-at-requires c κs = omega arith
+
+returns-3 : tie.Need-returns-3 Inv-loop μ-loop
+returns-3 c =
+    let h = c .before .before in
+    let l = h .before .before .loop in
+    let s = h .before .before .before .before .before .before .before .args .sheet .now in
+    checking-low s (l .at) (l .least) (l .i) (h .head-at .result) (l .inv) (omega arith) (h .head-at .ensures) (c .if3 .taken)
+
+returns-4 : tie.Need-returns-4 Inv-loop μ-loop
+returns-4 c =
+    let h = c .before .before .before .before in
+    let l = h .before .before .loop in
+    let s = h .before .before .before .before .before .before .before .args .sheet .now in
+    checking-offset s (l .at) (l .least) (l .i) (h .head-at .result) (l .inv) (omega arith) (h .head-at .ensures) (c .before .before .if3 .left)
+    (c .if4 .taken)
+
+add-at-2 : tie.Need-add-at-2 Inv-loop μ-loop
+add-at-2 c = omega arith
+
+least-after-requires : tie.Need-least-after-requires Inv-loop μ-loop
+least-after-requires c κs = search needs
+
+add-i : tie.Need-add-i Inv-loop μ-loop
+add-i c = search needs
+
+loop-less : tie.Need-loop-less Inv-loop μ-loop
+loop-less c = search needs
+
+loop-again : tie.Need-loop-again Inv-loop μ-loop
+loop-again c =
+    let t = c .before .before in
+    let h = t .before .before .before .before in
+    let l = h .before .before .loop in
+    let s = h .before .before .before .before .before .before .before .args .sheet .now in
+    rw (c .least-after .ensures)
+    (checking-on s (l .at) (l .least) (l .i) (h .head-at .result) (l .inv) (omega arith) (h .head-at .ensures) (t .before .before .if3 .left)
+    (t .if4 .left))
+
+returns-5 : tie.Need-returns-5 Inv-loop μ-loop
+returns-5 c =
+    let l = c .before .loop in
+    let s = c .before .before .before .before .before .before .args .sheet .now in
+    checking-end s (l .at) (l .least) (l .i) (l .inv) (omega arith)
+
+pub right-spec : {M : Type 1} → statement M
+right-spec =
+    tie.close
+    (tie.spec
+    Inv-loop
+    μ-loop
+    returns
+    count-requires
+    mul-at
+    add-at
+    returns-2
+    loop-holds
+    head-at-requires
+    returns-3
+    returns-4
+    add-at-2
+    least-after-requires
+    add-i
+    loop-less
+    loop-again
+    returns-5)

@@ -1,0 +1,4 @@
+pub mod Seen
+pub mod Reader
+pub mod Writer
+pub mod Editor

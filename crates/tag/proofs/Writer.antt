@@ -1,0 +1,115 @@
+-- Writing: what the stages give is what writing must give.
+use mathlib.Core.Path.{_≡_, refl, sym, ap, ap₂, _∙_}
+use Prim.Native.Nat.{ℕ, _≤_}
+use mathlib.Core.Bool.{Bool, true, _&&_}
+use mathlib.Core.List.{List, [], _∷_, _++_}
+use lib.ListN.{length}
+use Rattle.format.specs.Answers.{Answer, got, refused, plain, Step, need, inOrder, afterwards}
+use Rattle.format.specs.Bytes.{joined}
+use Rattle.format.specs.Pages.{pageSize, goodSize, lockMap, changed, lockedChanged}
+use Rattle.format.specs.Elements.{Content, numbers, place, placeIn, el, clash}
+use Rattle.format.specs.Slices.{elements}
+use Rattle.format.specs.Sheet.{rightSheet, entriesIn, goodValues, contentOf}
+use Rattle.format.specs.Layout.{image, fits}
+use Rattle.format.specs.Calls.{layingSteps, sheetContent, writeSteps, writing}
+use Rattle.format.specs.Numbers.{Writes}
+use Rattle.format.specs.declared.WriteAnswer.the-variants as write
+use Rattle.format.proofs.Answers.{first-no, next-ok, refused-on, passed-on, afterwards-got, afterwards-refused}
+use Rattle.format.proofs.Joined.{joined-one, image-joined, fits-joined, clash-joined}
+use Rattle.sheet.specs.declared.Places.{Places}
+use Rattle.image.specs.declared.Laid.{Laid}
+use Rattle.image.specs.declared.Laid.the-variants as laid
+use Rattle.tag.proofs.Seen.{Slices, slices-elements}
+use Rattle.sheet.specs.Scanning.{scanning}
+use Rattle.sheet.proofs.Placed.{scan-good}
+use Rattle.tag.specs.Placed.{Placed}
+use Rattle.image.specs.Laying.{laidGiven, laying, Lays}
+
+-- ---- laying elements down: only the joined carried blocks count
+
+pub laying-joined : (locks t : List ℕ) (ss xs bs : List (List ℕ)) → joined xs ≡ joined bs
+    → let a : Content = record { slots = ss; carried = xs } in let b : Content = record { slots = ss; carried = bs } in
+    (laying locks t a ≡ laying locks t b) × (image (length t) a ≡ image (length t) b)
+unfolding layingSteps
+laying-joined locks t ss xs bs e =
+    let i = image-joined ss xs bs e (length t) in
+    (rw (i, fits-joined ss xs bs e (length t), clash-joined ss xs bs e), i)
+
+-- the elements of seven slices and a row of carried bytes
+pub slices-laying : (locks t : List ℕ) (c : Content) (item isil set usage media second other carried : List ℕ) → Slices c item isil set usage media second other
+    → ((bs : List (List ℕ)) → elements (el c 1) (el c 3) (el c 4) (el c 5) (el c 19) (el c 22) (el c 23) bs ≡ record { slots = c .slots; carried = bs }) → carried ≡ joined (c .carried)
+    → let d : Content = elements item isil set usage media second other (carried ∷ []) in (laying locks t d ≡ laying locks t c) × (image (length t) d ≡ image (length t) c)
+slices-laying locks t c item isil set usage media second other carried h eta e =
+    let d : Content = elements item isil set usage media second other (carried ∷ []) in
+    let q : d ≡ record { slots = c .slots; carried = carried ∷ [] } = slices-elements c item isil set usage media second other h (carried ∷ []) ∙ eta (carried ∷ []) in
+    let l = laying-joined locks t (c .slots) (carried ∷ []) (c .carried) (joined-one carried ∙ e) in
+    (ap (laying locks t) q ∙ l .0, ap (image (length t)) q ∙ l .1)
+
+-- ---- refusals
+
+module _ (s t locks : List ℕ) where
+  refused-writes : (k n : ℕ) → writing pageSize s t locks .answer ≡ refused (plain k) → n ≡ k → Writes s t locks (write.Refused n) t
+  unfolding writing
+  refused-writes k n a e = record {
+    answered = ap (λ (m : ℕ). refused (plain m)) e ∙ sym a;
+    left = sym (afterwards-refused (writing pageSize s t locks .answer) (plain k) (image (length t) (sheetContent s)) t a);
+  }
+
+  abbrev sized : Bool
+  sized = goodSize pageSize (length t) && lockMap pageSize locks (length t)
+
+  pub size-writes : (k n : ℕ) → need 1 sized ≡ refused (plain k) → n ≡ k → Writes s t locks (write.Refused n) t
+  unfolding writing writeSteps
+  size-writes k n r e = refused-writes k n (first-no (need 1 sized) _ _ (plain k) r) e
+
+  pub scan-writes : (k n : ℕ) → sized ≡ true → scanning s ≡ refused (plain k) → n ≡ k → Writes s t locks (write.Refused n) t
+  unfolding writing writeSteps scanning
+  scan-writes k n z r e =
+      refused-writes k n (next-ok 1 sized _ _ z ∙ refused-on (need 8 (rightSheet s) ∷ need 9 (goodValues (entriesIn s)) ∷ []) (layingSteps pageSize locks t (sheetContent s)) _ _ (plain k) r) e
+
+  -- ---- the rest is laying down
+
+  laid-answer : sized ≡ true → rightSheet s ≡ true → goodValues (entriesIn s) ≡ true → writing pageSize s t locks .answer ≡ laying locks t (sheetContent s)
+  unfolding writing writeSteps
+  laid-answer z r v = next-ok 1 sized _ _ z ∙ next-ok 8 (rightSheet s) _ _ r ∙ next-ok 9 (goodValues (entriesIn s)) _ _ v
+
+  module _ (z : sized ≡ true) (r : rightSheet s ≡ true) (v : goodValues (entriesIn s) ≡ true) (c : Content) (l : Laid) (tag : List ℕ)
+      (same : (laying locks t c ≡ laying locks t (sheetContent s)) × (image (length t) c ≡ image (length t) (sheetContent s))) (h : Lays t locks c l tag) where
+    answer : laidGiven l ≡ writing pageSize s t locks .answer
+    answer = h .answered ∙ same .0 ∙ sym (laid-answer z r v)
+
+    left : tag ≡ writing pageSize s t locks .tag
+    unfolding writing
+    left = h .left ∙ ap₂ (λ (m : Answer ℕ) (i : List ℕ). afterwards m i t) (same .0 ∙ sym (laid-answer z r v)) (same .1)
+
+    pub laid-refused-writes : (k n : ℕ) → l ≡ laid.Refused k → n ≡ k → Writes s t locks (write.Refused n) tag
+    laid-refused-writes k n e q = record { answered = ap (λ (m : ℕ). refused (plain m)) q ∙ sym (ap laidGiven e) ∙ answer; left = left }
+
+    pub laid-done-writes : (k : ℕ) → l ≡ laid.Done k → Writes s t locks (write.Done k) tag
+    laid-done-writes k e = record { answered = sym (ap laidGiven e) ∙ answer; left = left }
+
+-- the sheet's elements, one by one
+pub sheet-elements : (s : List ℕ) (bs : List (List ℕ))
+    → elements (el (sheetContent s) 1) (el (sheetContent s) 3) (el (sheetContent s) 4) (el (sheetContent s) 5) (el (sheetContent s) 19) (el (sheetContent s) 22) (el (sheetContent s) 23) bs
+    ≡ record { slots = sheetContent s .slots; carried = bs }
+unfolding contentOf numbers place placeIn
+sheet-elements s bs = refl
+
+-- a judged sheet
+pub scan-placed : (s : List ℕ) (p : Places) → scanning s ≡ got p → Placed s p
+scan-placed s p e =
+    let g = scan-good s p e in
+    record {
+      right = g .right;
+      values = g .good;
+      item = g .item;
+      isil = g .isil;
+      set = g .set;
+      usage = g .usage;
+      media = g .media;
+      second = g .second;
+      other = g .other;
+      valued = g .values;
+      carried-inside = g .carried-inside;
+      carried = g .carried-is;
+    }

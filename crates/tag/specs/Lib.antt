@@ -1,0 +1,4 @@
+pub mod Stages
+pub mod Placed
+pub mod Picking
+pub mod Editing
