@@ -16,6 +16,7 @@ pub mod Layouts
 pub mod Joined
 pub mod Sound
 pub mod Shorter
+pub mod Offsets
 pub mod Refusals
 pub mod Laying
 pub mod Writes

@@ -31,7 +31,8 @@ use Rattle.format.proofs.Sheets.{Right, sheet-right, right-sheet}
 use Rattle.format.proofs.Entries.{entries-content, values-parts, Entered, content-entries, bad-set}
 use Rattle.format.proofs.Values.{set-held}
 use Rattle.format.proofs.Sound.{read-sound}
-use Rattle.format.proofs.Shorter.{read-fits, laid-shorter, read-fitting}
+use Rattle.format.proofs.Shorter.{read-fits, laid-shorter}
+use Rattle.format.proofs.Offsets.{read-fitting}
 use Rattle.format.proofs.Laying.{laid-open, own-read, layout-own}
 use Rattle.format.proofs.Writes.{Written, write-accepted, write-tag, written-own, written-read, write-own}
 use Rattle.format.proofs.Edits.{Accepted, edit-steps, edit-accepted, edit-tag, same-accepted, same-given}

@@ -1,5 +1,4 @@
--- The layout of what a readable tag holds exists on that tag: no block of it is longer than what was read, and no sheet of it has an
--- offset above 65,535.
+-- The layout of what a readable tag holds exists on that tag: no block of it is longer than what was read.
 use mathlib.Core.Path.{_≡_, refl, sym, ap, ap₂, _∙_}
 use mathlib.Core.Logic.{_⊎_, inl, inr}
 use Prim.Native.Nat.{ℕ, zero, suc, _+_, _-_, _*_, _/_, _%_, _≤_, _<_, min}
@@ -16,7 +15,7 @@ use Rattle.format.specs.Pages.{goodSize}
 use Rattle.format.specs.Fields.{text, isilOf, isil, hyphen, blank, alternate, alternative, isOwner, marker, marked, goodItem, prefixIn, ownerSaid, goodOwner, long, packed, basicOwner}
 use Rattle.format.specs.Chain.{idOf, wellFormed, isLibrary, walk, chain, libraryBlock, otherBlocks, Library, payload, lastField, libraryIn, libraryBytes, sealed, blockOne}
 use Rattle.format.specs.Elements.{Content, numbers, placeIn, place, el, form, value, valuesAt}
-use Rattle.format.specs.Sheet.{Entry, bodies, bodyAt, offsetsFit, fitting, entriesAt, carriedEntries, entries}
+use Rattle.format.specs.Sheet.{Entry, bodies, bodyAt, sheetOf, offsetsFit, fitting, entriesAt, carriedEntries, entries}
 use Rattle.format.specs.Layout.{ownerWidth, ownerOf, usageOf, library, basic, laidOut, fits}
 use Rattle.format.specs.Reading.{mainUsage, itemIn, ownerIn, walked, blocksIn, libraryOn, ownerOn, contentIn, Readable}
 use Rattle.format.proofs.Tests.{never, and-l, and-r, and-i, not-t, or-inv, or-r, same-eq, same-refl}
@@ -24,6 +23,7 @@ use Rattle.format.proofs.Answers.{need-inv, then-inv, got-inj}
 use Rattle.format.proofs.Strings.{empty-of, part-length, strip-length, strip-strip, length-pad, up-to-before, past-before}
 use Rattle.format.proofs.Fields.{Isil, isil-facts, isil-first, Alternative, alternative-facts}
 use Rattle.format.proofs.Blocks.{Whole, well-facts, carried-facts, sealed-length}
+use Rattle.format.proofs.Sheets.{length-sheet}
 use Rattle.format.proofs.Slots.{Sound, sound-parts, form-carriable}
 use Rattle.format.proofs.Values.{value-short}
 use Rattle.format.proofs.Layouts.{basic-length, size-cases, size-most}
@@ -330,7 +330,7 @@ carried-short t r = omega (arith, others-le (blocksIn t), walk-total (length (dr
 -- ---- the layout of what was read
 
 module _ (p : ℕ) (t : List ℕ) (y : bytes t ≡ true) (g : goodSize p (length t) ≡ true) (r : Readable t) where
-  blocks-total : length (joined (blocksIn t)) ≤ length t - 34
+  pub blocks-total : length (joined (blocksIn t)) ≤ length t - 34
   unfolding chain
   blocks-total = omega (arith, walk-total (length (drop 34 t)) false (drop 34 t) (blocksIn t) (r .blocks), length-drop 34 t)
 
@@ -360,62 +360,3 @@ module _ (p : ℕ) (t : List ℕ) (y : bytes t ≡ true) (g : goodSize p (length
   read-fits =
       and-i (le-leb (length (blockOne (library (length t) (contentIn t)))) 255 (omega (arith, block-shorter t r (length t) own-in-width, library-short (blocksIn t) (blocks-handed t y r))))
       (le-leb (length (laidOut (length t) (contentIn t))) (length t) (omega (arith, laid-shorter, blocks-total, wide .1)))
-
--- ---- no offset passes 65,535
-
-fit-total : (at : ℕ) (es : List Entry) → at + length (bodies es) ≤ 65535 → offsetsFit at es ≡ true
-unfolding offsetsFit bodies
-fit-total at [] h = refl
-fit-total at (e ∷ es) h =
-    let l = length-append (e .bytes) (bodies es) in
-    and-i (le-leb at 65535 (omega arith)) (fit-total (at + length (e .bytes)) es (omega arith))
-
-pub bodies-append : (a b : List Entry) → length (bodies (a ++ b)) ≡ length (bodies a) + length (bodies b)
-unfolding bodies
-bodies-append [] b = omega arith
-bodies-append (e ∷ a) b = omega (arith, length-append (e .bytes) (bodies (a ++ b)), length-append (e .bytes) (bodies a), bodies-append a b)
-
-pub carried-total : (cs : List (List ℕ)) → (length (bodies (carriedEntries cs)) ≡ length (joined cs)) × (length (carriedEntries cs) ≡ length cs)
-unfolding bodies carriedEntries joined
-carried-total [] = (refl, refl)
-carried-total (c ∷ cs) =
-    let r = carried-total cs in
-    (omega (arith, length-append c (bodies (carriedEntries cs)), length-append c (joined cs), r .0), ap suc (r .1))
-
-slots-total : (ns : List ℕ) (ss : List (List ℕ)) → valuesAt ns ss ≡ true → (length (bodies (entriesAt ns ss)) ≤ 255 * length ns) × (length (entriesAt ns ss) ≤ length ns)
-unfolding bodies entriesAt valuesAt
-slots-total [] [] v = (omega arith, omega arith)
-slots-total [] (s ∷ ss) v = never (cc)
-slots-total (n ∷ ns) [] v = never (cc)
-slots-total (n ∷ ns) ([] ∷ ss) v = let r = slots-total ns ss (and-r (value n []) (valuesAt ns ss) v) in (omega arith, omega arith)
-slots-total (n ∷ ns) ((x ∷ s) ∷ ss) v =
-    let r = slots-total ns ss (and-r (value n (x ∷ s)) (valuesAt ns ss) v) in
-    let l = value-short n (x ∷ s) (and-l (value n (x ∷ s)) (valuesAt ns ss) v) in
-    (omega (arith, length-append (x ∷ s) (bodies (entriesAt ns ss)), r), omega arith)
-
--- three bytes at least for each carried block
-pub carried-count : (cs : List (List ℕ)) → all (form 255) cs ≡ true → 3 * length cs ≤ length (joined cs)
-unfolding all joined
-carried-count [] h = omega arith
-carried-count (c ∷ cs) h =
-    let k = well-facts c (carried-facts c (form-carriable c (and-l (form 255 c) (all (form 255) cs) h)) .0) in
-    omega (arith, carried-count cs (and-r (form 255 c) (all (form 255) cs) h), length-append c (joined cs), k .long)
-
-module _ (p : ℕ) (t : List ℕ) (y : bytes t ≡ true) (g : goodSize p (length t) ≡ true) (r : Readable t) where
-  -- what a permitted tag gives fits a sheet, whatever the page size
-  pub read-fitting : fitting (entries (contentIn t)) ≡ true
-  unfolding contentIn entries numbers
-  read-fitting =
-      let c : Content = contentIn t in
-      let k = sound-parts c (read-sound t y r) in
-      let a : List Entry = entriesAt numbers (c .slots) in
-      let b : List Entry = carriedEntries (c .carried) in
-      let st = slots-total numbers (c .slots) (k .values) in
-      let ct = carried-total (c .carried) in
-      fit-total (bodyAt (length (a ++ b))) (a ++ b)
-      (total (length (a ++ b)) (length (bodies (a ++ b))) (length a) (length b) (length (bodies a)) (length (bodies b)) (length (c .carried)) (length (joined (c .carried)))
-      (length-append a b) (bodies-append a b) (st .1) (st .0) (ct .1) (ct .0) (carried-count (c .carried) (k .blocks))
-      (omega (arith, others-le (blocksIn t), blocks-total p t y g r, size-most p (length t) g)))
-    where
-      total : (n m na nb ma mb nc jc : ℕ) → n ≡ na + nb → m ≡ ma + mb → na ≤ 7 → ma ≤ 1785 → nb ≡ nc → mb ≡ jc → 3 * nc ≤ jc → jc ≤ 2048 → 2 + 4 * n + m ≤ 65535
-      total n m na nb ma mb nc jc a b c d e f g h = omega arith

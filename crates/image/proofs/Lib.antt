@@ -1,4 +1,5 @@
-pub mod Emitting
-pub mod Owners
-pub mod Libraries
+pub mod Drafts
+pub mod OwnerForms
+pub mod BlockBytes
 pub mod Placing
+pub mod Alike

@@ -1,16 +1,16 @@
--- Laying elements down: what the writer's own layout takes of each slice, and how it comes into an image. The layout itself is
--- `format`'s.
+-- Laying elements down: what the writer's own layout takes of each slice, and how it comes into an image. No rule of document 01 stands
+-- here: the layout is `format`'s.
 use mathlib.Core.Path.{_≡_}
 use mathlib.Core.Logic.{_⊎_}
 use Prim.Native.Nat.{ℕ, _+_, _-_, _≤_}
-use mathlib.Core.Bool.{true}
+use mathlib.Core.Bool.{Bool, true, false, _&&_}
 use mathlib.Core.List.{List, [], _∷_, _++_}
 use lib.ListN.{length, take, drop, replicate}
 use Rattle.format.specs.Answers.{Answer, plain, got, refused, inOrder, afterwards}
-use Rattle.format.specs.Bytes.{pad}
+use Rattle.format.specs.Bytes.{isEmpty, same, pad, upTo}
 use Rattle.format.specs.Pages.{pageSize, changed}
-use Rattle.format.specs.Fields.{text, isOwner}
-use Rattle.format.specs.Chain.{Library, blockOne}
+use Rattle.format.specs.Fields.{text, isil, hyphen, isOwner, packed}
+use Rattle.format.specs.Chain.{Library, libraryBytes, blockOne}
 use Rattle.format.specs.Elements.{Content}
 use Rattle.format.specs.Layout.{library, front, basic, image, fits}
 use Rattle.format.specs.Calls.{layingSteps}
@@ -34,6 +34,10 @@ pub record Lays (t locks : List ℕ) (c : Content) (r : Laid) (tag : List ℕ) :
   pub answered : laidGiven r ≡ laying locks t c
   pub left : tag ≡ afterwards (laying locks t c) (image (length t) c) t
 
+-- the tag t is just the layout of elements c
+abbrev pub layoutIs : Content → List ℕ → Bool
+layoutIs c t = fits (length t) c && same (image (length t) c) t
+
 -- ---- what the layout takes
 
 -- elements whose owner is found; the layout asks no more of it than its bytes
@@ -52,13 +56,15 @@ basicOf n item owner set usage = basic n (owned item owner set usage [] [] [])
 abbrev pub libraryOf : ℕ → List ℕ → List ℕ → List ℕ → List ℕ → List ℕ → Library
 libraryOf n item owner usage media second = library n (owned item owner [] usage media second [])
 
--- among them the owner, and the usage byte
+-- among them the owner
 abbrev pub ownerBehind : ℕ → List ℕ → List ℕ
 ownerBehind n owner = libraryOf n [] owner [] [] [] .owner
 
+-- and the usage byte
 abbrev pub usageBehind : ℕ → ℕ
 usageBehind usage = libraryOf 0 [] [] (usage ∷ []) [] [] .usage
 
+-- block 1's fields, one by one
 abbrev pub fieldsOf : ℕ → List ℕ → List ℕ → ℕ → Library
 fieldsOf media item owner usage = record { media = media; item = item; owner = owner; usage = usage }
 
@@ -84,6 +90,7 @@ pub record Placeable (item owner set usage second : List ℕ) : Type 0 where
 
 -- ---- an image that is filled from the front
 
+-- n bytes 00
 abbrev pub zeros : ℕ → List ℕ
 zeros n = replicate n 0
 
@@ -94,6 +101,28 @@ Blank at d = drop at d ≡ zeros (length d - at)
 -- the bytes of d before byte `at`, then s, and 00 to the end
 abbrev pub laidAt : ℕ → List ℕ → List ℕ → List ℕ
 laidAt at s d = take at d ++ pad (length d - at) s
+
+-- an ISIL with a short prefix has room in the owner field of d
+pub record IsilFits (owner d : List ℕ) : Type 0 where
+  pub size : 32 ≤ length d
+  pub blank : Blank 21 d
+  pub good : isil owner ≡ true
+  pub room : 21 + length (packed owner) ≤ length d
+  pub short : length (upTo hyphen owner) ≤ 2
+
+-- block 1's fields, of which some are there, have room from byte `at` of d on
+pub record FieldsFit (at media usage : ℕ) (item owner d : List ℕ) : Type 0 where
+  pub blank : Blank at d
+  pub given : Behind item owner
+  pub some : isEmpty (libraryBytes (fieldsOf media item owner usage)) ≡ false
+  pub room : at + length (libraryBytes (fieldsOf media item owner usage)) ≤ length d
+
+-- and so has block 1
+pub record BlockFits (at media usage : ℕ) (item owner d : List ℕ) : Type 0 where
+  pub blank : Blank at d
+  pub given : Behind item owner
+  pub short : length (blockOne (fieldsOf media item owner usage)) ≤ 255
+  pub room : at + length (blockOne (fieldsOf media item owner usage)) ≤ length d
 
 -- the elements' block 1 has room from byte `at` of d on
 pub record LibraryFits (at : ℕ) (d item owner usage media second : List ℕ) : Type 0 where

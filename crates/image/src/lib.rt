@@ -1,17 +1,18 @@
+// The writer's own layout: elements, lent as slices, laid down on a tag, and the question whether a tag is just that layout.
 use pages::Stored;
 ghost use mathlib.Core.Path.{_≡_};
-ghost use mathlib.Core.Bool.{true, false, _&&_, _||_};
+ghost use mathlib.Core.Bool.{true, false, _||_};
 ghost use mathlib.Core.List.{[], _∷_};
 ghost use Prim.Native.Nat.{_+_, _≤_};
 ghost use lib.ListN.{length, getD};
-ghost use Rattle.format.specs.Bytes.{isEmpty, same, upTo, xorAll};
+ghost use Rattle.format.specs.Bytes.{isEmpty, same, xorAll};
 ghost use Rattle.format.specs.Pages.{pageSize, goodSize};
-ghost use Rattle.format.specs.Fields.{isil, hyphen, packed, basicOwner, ownerField};
+ghost use Rattle.format.specs.Fields.{packed, basicOwner, ownerField};
 ghost use Rattle.format.specs.Chain.{libraryBytes, blockOne};
 ghost use Rattle.format.specs.Elements.{clash};
 ghost use Rattle.format.specs.Layout.{ownerWidth, image, fits};
 ghost use Rattle.format.specs.Slices.{elements, Valued};
-ghost use Rattle.image.specs.Laying.{Lays, owned, frontOf, basicOf, libraryOf, ownerBehind, usageBehind, fieldsOf, OwnerOrNone, Behind, Placeable, LibraryFits, Buildable, Blank, laidAt};
+ghost use Rattle.image.specs.Laying.{Lays, layoutIs, owned, frontOf, basicOf, libraryOf, ownerBehind, usageBehind, fieldsOf, OwnerOrNone, Behind, Placeable, IsilFits, FieldsFit, BlockFits, LibraryFits, Buildable, Blank, laidAt};
 
 // Laying elements down on a tag: the count of pages changed, or the number of the refusal.
 pub enum Laid {
@@ -186,7 +187,7 @@ fn put_front(draft: &mut [u8], item: &[u8], set: &[u8], usage: &[u8])
 
 // The owner field, at byte 21, with an ISIL that it holds: without its hyphen, a blank after a prefix of one letter.
 fn put_isil(draft: &mut [u8], owner: &[u8])
-    requires { ⌜ (32 ≤ length (now draft)) × Blank 21 (now draft) × (isil (now owner) ≡ true) × (21 + length (packed (now owner)) ≤ length (now draft)) × (length (upTo hyphen (now owner)) ≤ 2) ⌝ }
+    requires { ⌜ IsilFits (now owner) (now draft) ⌝ }
     ensures { λ _. ⌜ now (draft .exit) ≡ laidAt 21 (packed (now (owner .entry))) (now (draft .entry)) ⌝ }
 {
     draft[21] = owner[0];
@@ -247,8 +248,7 @@ fn xor_of(bytes: &[u8]) -> u8
 
 // The fields of a block 1 that has some, at byte `at`, without the 00 bytes at their end; gives the place behind them.
 fn put_fields(draft: &mut [u8], at: usize, media: u8, item: &[u8], owner: &[u8], usage: u8) -> usize
-    requires { ⌜ Blank at (now draft) × Behind (now item) (now owner) × (isEmpty (libraryBytes (fieldsOf media (now item) (now owner) usage)) ≡ false)
-        × (at + length (libraryBytes (fieldsOf media (now item) (now owner) usage)) ≤ length (now draft)) ⌝ }
+    requires { ⌜ FieldsFit at media usage (now item) (now owner) (now draft) ⌝ }
     ensures { λ r. ⌜ (r ≡ at + length (libraryBytes (fieldsOf media (now (item .entry)) (now (owner .entry)) usage)))
         × (now (draft .exit) ≡ laidAt at (libraryBytes (fieldsOf media (now (item .entry)) (now (owner .entry)) usage)) (now (draft .entry))) ⌝ }
 {
@@ -267,8 +267,7 @@ fn put_fields(draft: &mut [u8], at: usize, media: u8, item: &[u8], owner: &[u8],
 
 // Block 1 if it has anything, at byte `at`, with its length, its ID and its checksum; gives the place behind it.
 fn put_block(draft: &mut [u8], at: usize, media: u8, item: &[u8], owner: &[u8], usage: u8) -> usize
-    requires { ⌜ Blank at (now draft) × Behind (now item) (now owner) × (length (blockOne (fieldsOf media (now item) (now owner) usage)) ≤ 255)
-        × (at + length (blockOne (fieldsOf media (now item) (now owner) usage)) ≤ length (now draft)) ⌝ }
+    requires { ⌜ BlockFits at media usage (now item) (now owner) (now draft) ⌝ }
     ensures { λ r. ⌜ (r ≡ at + length (blockOne (fieldsOf media (now (item .entry)) (now (owner .entry)) usage)))
         × (now (draft .exit) ≡ laidAt at (blockOne (fieldsOf media (now (item .entry)) (now (owner .entry)) usage)) (now (draft .entry))) ⌝ }
 {
@@ -379,7 +378,7 @@ fn is_own_with(
     tag: &[u8],
 ) -> bool
     requires { ⌜ (goodSize pageSize (length (now tag)) ≡ true) × Placeable (now item) (now owner) (now set) (now usage) (now second) ⌝ }
-    ensures { λ r. ⌜ r ≡ (fits (length (now (tag .entry))) (owned (now (item .entry)) (now (owner .entry)) (now (set .entry)) (now (usage .entry)) (now (media .entry)) (now (second .entry)) (now (carried .entry))) && same (image (length (now (tag .entry))) (owned (now (item .entry)) (now (owner .entry)) (now (set .entry)) (now (usage .entry)) (now (media .entry)) (now (second .entry)) (now (carried .entry)))) (now (tag .entry))) ⌝ }
+    ensures { λ r. ⌜ r ≡ layoutIs (owned (now (item .entry)) (now (owner .entry)) (now (set .entry)) (now (usage .entry)) (now (media .entry)) (now (second .entry)) (now (carried .entry))) (now (tag .entry)) ⌝ }
 {
     let n = tag.len();
     if !has_room(item, owner, set, usage, media, second, carried, n) {
@@ -447,7 +446,7 @@ pub fn is_own(
 ) -> bool
     requires { ⌜ (goodSize pageSize (length (now tag)) ≡ true) × Valued (now item) (now isil) (now set) (now usage) (now media) (now second) (now other)
         × (clash (elements (now item) (now isil) (now set) (now usage) (now media) (now second) (now other) (now carried ∷ [])) ≡ false) ⌝ }
-    ensures { λ r. ⌜ r ≡ (fits (length (now (tag .entry))) (elements (now (item .entry)) (now (isil .entry)) (now (set .entry)) (now (usage .entry)) (now (media .entry)) (now (second .entry)) (now (other .entry)) (now (carried .entry) ∷ [])) && same (image (length (now (tag .entry))) (elements (now (item .entry)) (now (isil .entry)) (now (set .entry)) (now (usage .entry)) (now (media .entry)) (now (second .entry)) (now (other .entry)) (now (carried .entry) ∷ []))) (now (tag .entry))) ⌝ }
+    ensures { λ r. ⌜ r ≡ layoutIs (elements (now (item .entry)) (now (isil .entry)) (now (set .entry)) (now (usage .entry)) (now (media .entry)) (now (second .entry)) (now (other .entry)) (now (carried .entry) ∷ [])) (now (tag .entry)) ⌝ }
 {
     if isil.len() == 0 {
         return is_own_with(item, other, set, usage, media, second, carried, tag);

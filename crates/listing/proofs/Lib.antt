@@ -3,3 +3,4 @@ mod Lines
 pub mod Outcome
 pub mod Printed
 pub mod Examples
+pub mod Room

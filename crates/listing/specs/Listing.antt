@@ -58,7 +58,7 @@ unfoldable pub listed : List ℕ → Step → List ℕ
 listed t (got u) = elementsText (entries (contentIn t))
 listed t (refused (plain k)) = counted refusedWord k
 
--- the room for the sheet that the tag is read into; no tag needs more
+-- the room for the sheet that the tag is read into; no tag needs more (`room-enough`, proofs/Room.antt)
 abbrev pub sheetRoom : ℕ
 sheetRoom = 8192
 

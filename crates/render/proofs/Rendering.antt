@@ -16,7 +16,7 @@ use Rattle.format.specs.declared.ReadAnswer.the-variants.{Done, Refused}
 use Rattle.format.proofs.Tests.{and-i}
 use Rattle.format.proofs.Answers.{next-ok, next-no, none-ok, afterwards-got, afterwards-refused}
 use Rattle.format.proofs.Sheets.{length-heads, length-sheet}
-use Rattle.format.proofs.Shorter.{bodies-append, carried-total}
+use Rattle.format.proofs.Offsets.{bodies-append, carried-total}
 use Rattle.format.specs.Pieces.{stored}
 use Rattle.render.specs.Rendering.{rendering, Rendered}
 

@@ -1,6 +1,6 @@
 -- `image::block_size` meets its contract: each way out has its last field.
 use borrow.Author.Needs.{needs}
-use Rattle.image.proofs.Libraries.{size-usage, size-owner, size-item, size-media, size-nothing}
+use Rattle.image.proofs.BlockBytes.{size-usage, size-owner, size-item, size-media, size-nothing}
 use Rattle.image.proofs.block_size.Statement.{statement}
 use Rattle.image.proofs.block_size.Tie as tie
 
@@ -26,13 +26,27 @@ add-result-5 : tie.Need-add-result-5
 add-result-5 c = search needs
 
 returns-3 : tie.Need-returns-3
-returns-3 c = let a = c .before .before .before .args in rw (c .before .before .if1 .left) (size-item (a .kind) (a .item .now) (a .owner .now) (c .before .before .before .pre) (c .before .if2 .left) (c .if3 .taken))
+returns-3 c =
+    let c1 = c .before in
+    let c2 = c1 .before in
+    let c3 = c2 .before in
+    let a = c3 .args in rw (c2 .if1 .left) (size-item (a .kind) (a .item .now) (a .owner .now) (c3 .pre) (c1 .if2 .left) (c .if3 .taken))
 
 returns-4 : tie.Need-returns-4
-returns-4 c = let a = c .before .before .before .before .args in rw (c .before .before .before .if1 .left) (size-media (a .kind) (a .item .now) (a .owner .now) (c .before .before .before .before .pre) (c .before .before .if2 .left) (c .before .if3 .left) (c .if4 .taken))
+returns-4 c =
+    let c1 = c .before in
+    let c2 = c1 .before in
+    let c3 = c2 .before in
+    let c4 = c3 .before in
+    let a = c4 .args in rw (c3 .if1 .left) (size-media (a .kind) (a .item .now) (a .owner .now) (c4 .pre) (c2 .if2 .left) (c1 .if3 .left) (c .if4 .taken))
 
 returns-5 : tie.Need-returns-5
-returns-5 c = let a = c .before .before .before .before .args in rw (c .before .before .before .if1 .left) (size-nothing (a .kind) (a .item .now) (a .owner .now) (c .before .before .before .before .pre) (c .before .before .if2 .left) (c .before .if3 .left) (c .if4 .left))
+returns-5 c =
+    let c1 = c .before in
+    let c2 = c1 .before in
+    let c3 = c2 .before in
+    let c4 = c3 .before in
+    let a = c4 .args in rw (c3 .if1 .left) (size-nothing (a .kind) (a .item .now) (a .owner .now) (c4 .pre) (c2 .if2 .left) (c1 .if3 .left) (c .if4 .left))
 
 pub block-size-spec : {M : Type 1} → statement M
 block-size-spec =

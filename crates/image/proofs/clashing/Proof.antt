@@ -27,15 +27,19 @@ returns c =
 
 returns-2 : tie.Need-returns-2
 returns-2 c =
-    let a = c .before .before .args in
+    let c1 = c .before in
+    let c2 = c1 .before in
+    let a = c2 .args in
     told (a .item .now) (a .isil .now) (a .second .now) (a .other .now) false _
-    (⊎-elim (λ w. and-no (not (eqb (length (a .isil .now)) 0)) _ (ap not (eq-eqb _ 0 (w .1 .left)))) (λ w. rw (eq-eqb (length (a .isil .now)) 0 (w .left))) (c .before .if1 .came)) (rw (ne-eqb _ 0 (c .if3 .taken)))
+    (⊎-elim (λ w. and-no (not (eqb (length (a .isil .now)) 0)) _ (ap not (eq-eqb _ 0 (w .1 .left)))) (λ w. rw (eq-eqb (length (a .isil .now)) 0 (w .left))) (c1 .if1 .came)) (rw (ne-eqb _ 0 (c .if3 .taken)))
 
 returns-3 : tie.Need-returns-3
 returns-3 c =
-    let a = c .before .before .args in
+    let c1 = c .before in
+    let c2 = c1 .before in
+    let a = c2 .args in
     told (a .item .now) (a .isil .now) (a .second .now) (a .other .now) false _
-    (⊎-elim (λ w. and-no (not (eqb (length (a .isil .now)) 0)) _ (ap not (eq-eqb _ 0 (w .1 .left)))) (λ w. rw (eq-eqb (length (a .isil .now)) 0 (w .left))) (c .before .if1 .came)) (rw (eq-eqb _ 0 (c .if3 .left)))
+    (⊎-elim (λ w. and-no (not (eqb (length (a .isil .now)) 0)) _ (ap not (eq-eqb _ 0 (w .1 .left)))) (λ w. rw (eq-eqb (length (a .isil .now)) 0 (w .left))) (c1 .if1 .came)) (rw (eq-eqb _ 0 (c .if3 .left)))
 
 pub clashing-spec : {M : Type 1} → statement M
 clashing-spec = tie.close (tie.spec returns returns-2 returns-3)

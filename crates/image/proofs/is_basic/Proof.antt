@@ -2,7 +2,7 @@
 use mathlib.Core.Path.{sym}
 use native.Mathlib.Omega.{arith}
 use borrow.Author.Needs.{needs}
-use Rattle.image.proofs.Owners.{prefixed, prefixed-long, low-alternate, high-isil, none-basic, alternate-basic, one-capital, two-capitals, more-capitals}
+use Rattle.image.proofs.OwnerForms.{prefixed, prefixed-long, low-alternate, high-isil, none-basic, alternate-basic, one-capital, two-capitals, more-capitals}
 use Rattle.image.proofs.is_basic.Statement.{statement}
 use Rattle.image.proofs.is_basic.Tie as tie
 
@@ -27,29 +27,43 @@ shared-slice-read-if3 c =
 
 returns-3 : tie.Need-returns-3
 returns-3 c =
-    let a = c .before .before .before .before .before .args in
+    let c2 = c .before .before in
+    let c4 = c2 .before .before in
+    let c5 = c4 .before in
+    let a = c5 .args in
     let o = a .owner .now in
-    sym (one-capital (prefixed o (high-isil o (c .before .before .before .before .before .pre .0) (c .before .before .before .before .if1 .left) (c .before .before .if2 .left))) (c .if3 .taken) .basic (a .width))
+    sym (one-capital (prefixed o (high-isil o (c5 .pre .0) (c4 .if1 .left) (c2 .if2 .left))) (c .if3 .taken) .basic (a .width))
 
 shared-slice-read-if4 : tie.Need-shared-slice-read-if4
 shared-slice-read-if4 c =
-    let o = c .before .before .before .before .before .before .args .owner .now in
-    omega (arith, prefixed-long (prefixed o (high-isil o (c .before .before .before .before .before .before .pre .0) (c .before .before .before .before .before .if1 .left) (c .before .before .before .if2 .left))))
+    let c3 = c .before .before .before in
+    let c5 = c3 .before .before in
+    let c6 = c5 .before in
+    let o = c6 .args .owner .now in
+    omega (arith, prefixed-long (prefixed o (high-isil o (c6 .pre .0) (c5 .if1 .left) (c3 .if2 .left))))
 
 sub-result : tie.Need-sub-result
 sub-result c = search needs
 
 returns-4 : tie.Need-returns-4
 returns-4 c =
-    let a = c .before .before .before .before .before .before .before .args in
+    let c2 = c .before .before in
+    let c4 = c2 .before .before in
+    let c6 = c4 .before .before in
+    let c7 = c6 .before in
+    let a = c7 .args in
     let o = a .owner .now in
-    sym (two-capitals (prefixed o (high-isil o (c .before .before .before .before .before .before .before .pre .0) (c .before .before .before .before .before .before .if1 .left) (c .before .before .before .before .if2 .left))) (c .before .before .if3 .left) (c .if4 .taken) .basic (a .width))
+    sym (two-capitals (prefixed o (high-isil o (c7 .pre .0) (c6 .if1 .left) (c4 .if2 .left))) (c2 .if3 .left) (c .if4 .taken) .basic (a .width))
 
 returns-5 : tie.Need-returns-5
 returns-5 c =
-    let a = c .before .before .before .before .before .before .before .args in
+    let c2 = c .before .before in
+    let c4 = c2 .before .before in
+    let c6 = c4 .before .before in
+    let c7 = c6 .before in
+    let a = c7 .args in
     let o = a .owner .now in
-    sym (more-capitals (a .width) (prefixed o (high-isil o (c .before .before .before .before .before .before .before .pre .0) (c .before .before .before .before .before .before .if1 .left) (c .before .before .before .before .if2 .left))) (c .before .before .if3 .left) (c .if4 .left) .0)
+    sym (more-capitals (a .width) (prefixed o (high-isil o (c7 .pre .0) (c6 .if1 .left) (c4 .if2 .left))) (c2 .if3 .left) (c .if4 .left) .0)
 
 pub is-basic-spec : {M : Type 1} → statement M
 is-basic-spec =

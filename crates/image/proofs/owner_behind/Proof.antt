@@ -33,10 +33,19 @@ part-result-end : tie.Need-part-result-end
 part-result-end c = search needs
 
 returns : tie.Need-returns
-returns c = told (c .before .before .before .before .before .args .n) _ (c .before .before .before .before .before .args .owner .now) _ true (c .before .before .before .owner-width .ensures) (c .before .before .is-basic .ensures) (c .before .if1 .taken)
+returns c =
+    let c1 = c .before in
+    let c2 = c1 .before in
+    let c3 = c2 .before in
+    let c5 = c3 .before .before in
+    told (c5 .args .n) _ (c5 .args .owner .now) _ true (c3 .owner-width .ensures) (c2 .is-basic .ensures) (c1 .if1 .taken)
 
 returns-2 : tie.Need-returns-2
-returns-2 c = told (c .before .before .before .before .args .n) _ (c .before .before .before .before .args .owner .now) _ false (c .before .before .owner-width .ensures) (c .before .is-basic .ensures) (c .if1 .left)
+returns-2 c =
+    let c1 = c .before in
+    let c2 = c1 .before in
+    let c4 = c2 .before .before in
+    told (c4 .args .n) _ (c4 .args .owner .now) _ false (c2 .owner-width .ensures) (c1 .is-basic .ensures) (c .if1 .left)
 
 pub owner-behind-spec : {M : Type 1} → statement M
 owner-behind-spec = tie.close (tie.spec owner-width-requires is-basic-requires sub-result part-result-start part-result-end returns returns-2)

@@ -16,7 +16,7 @@ use Rattle.format.specs.Elements.{numbers, placeIn, place}
 use Rattle.format.specs.Layout.{ownerWidth, front, basic}
 use Rattle.format.proofs.Layouts.{item-length, owner-length}
 use Rattle.image.specs.Laying.{zeros, laidAt, frontOf, basicOf}
-use Rattle.image.proofs.Emitting.{pad-full, take-pad, set-behind, laid-next, On, on-length, on-blank, replaced}
+use Rattle.image.proofs.Drafts.{pad-full, take-pad, set-behind, laid-next, On, on-length, on-blank, replaced}
 use Rattle.image.proofs.put_basic.Statement.{statement}
 use Rattle.image.proofs.put_basic.Tie as tie
 
@@ -124,8 +124,11 @@ cast-draft c = search needs
 
 slice-write-draft : tie.Need-slice-write-draft
 slice-write-draft c =
-    let a = c .before .before .before .before .before .before .before .before .before .before .before .before .before .before .before .args in
-    let o = both (a .draft .now) _ _ (a .item .now) (a .owner .now) (a .set .now) (a .usage .now) (c .before .before .before .before .before .before .before .before .before .before .before .before .before .before .before .pre .0) (c .before .before .before .before .before .before .before .before .put-front .ensures) (c .before .before .before .before .put-owner .ensures) in
+    let c4 = c .before .before .before .before in
+    let c8 = c4 .before .before .before .before in
+    let c15 = c8 .before .before .before .before .before .before .before in
+    let a = c15 .args in
+    let o = both (a .draft .now) _ _ (a .item .now) (a .owner .now) (a .set .now) (a .usage .now) (c15 .pre .0) (c8 .put-front .ensures) (c4 .put-owner .ensures) in
     omega (arith, on-length o)
 
 cast-draft-2 : tie.Need-cast-draft-2
@@ -133,14 +136,20 @@ cast-draft-2 c = search needs
 
 slice-write-draft-2 : tie.Need-slice-write-draft-2
 slice-write-draft-2 c =
-    let a = c .before .before .before .before .before .before .before .before .before .before .before .before .before .before .before .args in
-    let o = both (a .draft .now) _ _ (a .item .now) (a .owner .now) (a .set .now) (a .usage .now) (c .before .before .before .before .before .before .before .before .before .before .before .before .before .before .before .pre .0) (c .before .before .before .before .before .before .before .before .put-front .ensures) (c .before .before .before .before .put-owner .ensures) in
+    let c4 = c .before .before .before .before in
+    let c8 = c4 .before .before .before .before in
+    let c15 = c8 .before .before .before .before .before .before .before in
+    let a = c15 .args in
+    let o = both (a .draft .now) _ _ (a .item .now) (a .owner .now) (a .set .now) (a .usage .now) (c15 .pre .0) (c8 .put-front .ensures) (c4 .put-owner .ensures) in
     simp length-set (omega (arith, on-length o))
 
 owner-width-requires : tie.Need-owner-width-requires
 owner-width-requires c κs =
-    let a = c .before .before .before .before .before .before .before .before .before .before .before .before .before .before .before .args in
-    let o = both (a .draft .now) _ _ (a .item .now) (a .owner .now) (a .set .now) (a .usage .now) (c .before .before .before .before .before .before .before .before .before .before .before .before .before .before .before .pre .0) (c .before .before .before .before .before .before .before .before .put-front .ensures) (c .before .before .before .before .put-owner .ensures) in
+    let c4 = c .before .before .before .before in
+    let c8 = c4 .before .before .before .before in
+    let c15 = c8 .before .before .before .before .before .before .before in
+    let a = c15 .args in
+    let o = both (a .draft .now) _ _ (a .item .now) (a .owner .now) (a .set .now) (a .usage .now) (c15 .pre .0) (c8 .put-front .ensures) (c4 .put-owner .ensures) in
     simp length-set (omega (arith, on-length o))
 
 add-result : tie.Need-add-result
@@ -148,16 +157,23 @@ add-result c = search needs
 
 same-length : tie.Need-same-length
 same-length c =
-    let a = c .before .before .before .before .before .before .before .before .before .before .before .before .before .before .before .before .args in
-    let o = both (a .draft .now) _ _ (a .item .now) (a .owner .now) (a .set .now) (a .usage .now) (c .before .before .before .before .before .before .before .before .before .before .before .before .before .before .before .before .pre .0) (c .before .before .before .before .before .before .before .before .before .put-front .ensures) (c .before .before .before .before .before .put-owner .ensures) in
+    let c5 = c .before .before .before .before .before in
+    let c9 = c5 .before .before .before .before in
+    let c16 = c9 .before .before .before .before .before .before .before in
+    let a = c16 .args in
+    let o = both (a .draft .now) _ _ (a .item .now) (a .owner .now) (a .set .now) (a .usage .now) (c16 .pre .0) (c9 .put-front .ensures) (c5 .put-owner .ensures) in
     simp length-set (on-length o)
 
 returns : tie.Need-returns
 returns c =
-    let a = c .before .before .before .before .before .before .before .before .before .before .before .before .before .before .before .before .args in
-    let o = both (a .draft .now) _ _ (a .item .now) (a .owner .now) (a .set .now) (a .usage .now) (c .before .before .before .before .before .before .before .before .before .before .before .before .before .before .before .before .pre .0) (c .before .before .before .before .before .before .before .before .before .put-front .ensures) (c .before .before .before .before .before .put-owner .ensures) in (
+    let c1 = c .before in
+    let c5 = c1 .before .before .before .before in
+    let c9 = c5 .before .before .before .before in
+    let c16 = c9 .before .before .before .before .before .before .before in
+    let a = c16 .args in
+    let o = both (a .draft .now) _ _ (a .item .now) (a .owner .now) (a .set .now) (a .usage .now) (c16 .pre .0) (c9 .put-front .ensures) (c5 .put-owner .ensures) in (
       ap (λ (w : ℕ). 21 + w) (c .owner-width .ensures ∙ ap ownerWidth (simp length-set (on-length o))),
-      whole (a .draft .now) _ _ (a .item .now) (a .owner .now) (a .set .now) (a .usage .now) (c .before .before .before .before .before .before .before .before .before .before .before .before .before .before .before .before .pre .0) (c .before .before .before .before .before .before .before .before .before .put-front .ensures) (c .before .before .before .before .before .put-owner .ensures) _ (omega arith) (c .before .of-tag .ensures),
+      whole (a .draft .now) _ _ (a .item .now) (a .owner .now) (a .set .now) (a .usage .now) (c16 .pre .0) (c9 .put-front .ensures) (c5 .put-owner .ensures) _ (omega arith) (c1 .of-tag .ensures),
     )
 
 pub put-basic-spec : {M : Type 1} → statement M

@@ -11,17 +11,20 @@ use Rattle.format.specs.Bytes.{isEmpty, le16, padWith, xorAll}
 use Rattle.format.specs.Chain.{Library, libraryBytes, sealed, blockOne}
 use Rattle.format.proofs.Strings.{nil-of}
 use Rattle.format.proofs.Blocks.{sealed-length}
-use Rattle.image.specs.Laying.{fieldsOf, Blank, laidAt}
-use Rattle.image.proofs.Emitting.{blank-later, laid-nothing, laid-next, On, on-length, on-part, replaced}
-use Rattle.image.proofs.Libraries.{some-block}
+use Rattle.image.specs.Laying.{fieldsOf, FieldsFit, BlockFits, laidAt}
+use Rattle.image.proofs.Drafts.{blank-later, laid-nothing, laid-next, On, on-length, on-part, replaced}
+use Rattle.image.proofs.BlockBytes.{some-block}
 use Rattle.image.proofs.put_block.Statement.{statement}
 use Rattle.image.proofs.put_block.Tie as tie
 
-module _ (at : ℕ) (f : Library) (d : List ℕ) (clear : Blank at d) (room : at + length (blockOne f) ≤ length d) where
+module _ {at m u : ℕ} {item owner d : List ℕ} (b : BlockFits at m u item owner d) where
+  abbrev f : Library
+  f = fieldsOf m item owner u
+
   nothing : (r : ℕ) → r ≡ length (blockOne f) → r ≡ 0 → (at ≡ at + length (blockOne f)) × (d ≡ laidAt at (blockOne f) d)
   nothing r e z =
       let l : length (blockOne f) ≡ 0 = sym e ∙ z in
-      (omega arith, sym (ap (λ (s : List ℕ). laidAt at s d) (nil-of (blockOne f) l) ∙ laid-nothing at d clear))
+      (omega arith, sym (ap (λ (s : List ℕ). laidAt at s d) (nil-of (blockOne f) l) ∙ laid-nothing at d (b .blank)))
 
   module _ (r : ℕ) (e : r ≡ length (blockOne f)) (n : r ≡ 0 → ⊥) where
     abbrev p : List ℕ
@@ -33,11 +36,16 @@ module _ (at : ℕ) (f : Library) (d : List ℕ) (clear : Blank at d) (room : at
     size : length (blockOne f) ≡ length p + 4
     size = ap length (there .1) ∙ sealed-length 1 p
 
-    fields-blank : Blank (at + 4) d
-    fields-blank = let l = size in blank-later at (at + 4) d (omega arith) (omega arith) clear
+    behind : at + 4 + length p ≤ length d
+    behind = let l = size in let k = b .room in omega arith
 
-    fields-fit : at + 4 + length p ≤ length d
-    fields-fit = let l = size in omega arith
+    fields-fit : FieldsFit (at + 4) m u item owner d
+    fields-fit = let l = behind in record {
+      blank = blank-later at (at + 4) d (omega arith) (omega arith) (b .blank);
+      given = b .given;
+      some = there .0;
+      room = l;
+    }
 
     module _ (end : ℕ) (d₁ : List ℕ) (g : (end ≡ at + 4 + length p) × (d₁ ≡ laidAt (at + 4) p d)) where
       abbrev l : ℕ
@@ -51,9 +59,9 @@ module _ (at : ℕ) (f : Library) (d : List ℕ) (clear : Blank at d) (room : at
 
       on₁ : On at (0 ∷ 0 ∷ 0 ∷ 0 ∷ p) d d₁
       unfolding padWith
-      on₁ = let k = fields-fit in record {
+      on₁ = let k = behind in record {
         room = omega arith;
-        is = laid-next at 4 [] d d (omega arith) (omega arith) (sym (laid-nothing at d clear)) (at + 4) p d₁ refl k (g .1);
+        is = laid-next at 4 [] d d (omega arith) (omega arith) (sym (laid-nothing at d (b .blank))) (at + 4) p d₁ refl k (g .1);
       }
 
       on₃ : On at (l ∷ 1 ∷ 0 ∷ 0 ∷ p) d d₃
@@ -80,23 +88,27 @@ block-size-requires : tie.Need-block-size-requires
 block-size-requires c κs = search needs
 
 returns : tie.Need-returns
-returns c = let a = c .before .before .before .before .before .args in nothing (a .at) (fieldsOf (a .media) (a .item .now) (a .owner .now) (a .usage)) (a .draft .now) (c .before .before .before .before .before .pre .0) (c .before .before .before .before .before .pre .3) _ (c .before .block-size .ensures) (c .if1 .taken)
+returns c = nothing (c .before .before .before .before .before .pre) _ (c .before .block-size .ensures) (c .if1 .taken)
 
 add-put-fields : tie.Need-add-put-fields
 add-put-fields c = search needs
 
 put-fields-requires : tie.Need-put-fields-requires
 put-fields-requires c κs =
-    let a = c .before .before .before .before .before .before .args in
-    let b = c .before .before .block-size .ensures in
+    let z = c .before .before .block-size .ensures in
     let n = c .before .if1 .left in
-    (fields-blank (a .at) (fieldsOf (a .media) (a .item .now) (a .owner .now) (a .usage)) (a .draft .now) (c .before .before .before .before .before .before .pre .0) (c .before .before .before .before .before .before .pre .3) _ b n, c .before .before .before .before .before .before .pre .1, there (a .at) (fieldsOf (a .media) (a .item .now) (a .owner .now) (a .usage)) (a .draft .now) (c .before .before .before .before .before .before .pre .0) (c .before .before .before .before .before .before .pre .3) _ b n .0, fields-fit (a .at) (fieldsOf (a .media) (a .item .now) (a .owner .now) (a .usage)) (a .draft .now) (c .before .before .before .before .before .before .pre .0) (c .before .before .before .before .before .before .pre .3) _ b n)
+    fields-fit (c .before .before .before .before .before .before .pre) _ z n
 
 sub-draft : tie.Need-sub-draft
 sub-draft c = search needs
 
 cast-draft : tie.Need-cast-draft
-cast-draft c = let a = c .before .before .before .before .before .before .before .before .before .args in omega (arith, size (a .at) (fieldsOf (a .media) (a .item .now) (a .owner .now) (a .usage)) (a .draft .now) (c .before .before .before .before .before .before .before .before .before .pre .0) (c .before .before .before .before .before .before .before .before .before .pre .3) _ (c .before .before .before .before .before .block-size .ensures) (c .before .before .before .before .if1 .left), c .before .before .put-fields .ensures .0)
+cast-draft c =
+    let c2 = c .before .before in
+    let c4 = c2 .before .before in
+    let c5 = c4 .before in
+    let c9 = c5 .before .before .before .before in
+    omega (arith, size (c9 .pre) _ (c5 .block-size .ensures) (c4 .if1 .left), c2 .put-fields .ensures .0)
 
 slice-write-draft : tie.Need-slice-write-draft
 slice-write-draft c = search needs
@@ -106,11 +118,14 @@ add-draft c = search needs
 
 slice-write-draft-2 : tie.Need-slice-write-draft-2
 slice-write-draft-2 c =
-    let a = c .before .before .before .before .before .before .before .before .before .args in
-    let b = c .before .before .before .before .before .block-size .ensures in
-    let n = c .before .before .before .before .if1 .left in
-    let g = c .before .before .put-fields .ensures in
-    simp length-set (omega (arith, fields-fit (a .at) (fieldsOf (a .media) (a .item .now) (a .owner .now) (a .usage)) (a .draft .now) (c .before .before .before .before .before .before .before .before .before .pre .0) (c .before .before .before .before .before .before .before .before .before .pre .3) _ b n, on-length (on₁ (a .at) (fieldsOf (a .media) (a .item .now) (a .owner .now) (a .usage)) (a .draft .now) (c .before .before .before .before .before .before .before .before .before .pre .0) (c .before .before .before .before .before .before .before .before .before .pre .3) _ b n _ _ g)))
+    let c2 = c .before .before in
+    let c4 = c2 .before .before in
+    let c5 = c4 .before in
+    let c9 = c5 .before .before .before .before in
+    let z = c5 .block-size .ensures in
+    let n = c4 .if1 .left in
+    let g = c2 .put-fields .ensures in
+    simp length-set (omega (arith, behind (c9 .pre) _ z n, on-length (on₁ (c9 .pre) _ z n _ _ g)))
 
 sub-xor-of : tie.Need-sub-xor-of
 sub-xor-of c = search needs
@@ -120,11 +135,14 @@ part-xor-of-start c = search needs
 
 part-xor-of-end : tie.Need-part-xor-of-end
 part-xor-of-end c =
-    let a = c .before .before .before .before .before .before .before .before .before .before .args in
-    let b = c .before .before .before .before .before .before .block-size .ensures in
-    let n = c .before .before .before .before .before .if1 .left in
-    let g = c .before .before .before .put-fields .ensures in
-    simp length-set (omega (arith, fields-fit (a .at) (fieldsOf (a .media) (a .item .now) (a .owner .now) (a .usage)) (a .draft .now) (c .before .before .before .before .before .before .before .before .before .before .pre .0) (c .before .before .before .before .before .before .before .before .before .before .pre .3) _ b n, on-length (on₁ (a .at) (fieldsOf (a .media) (a .item .now) (a .owner .now) (a .usage)) (a .draft .now) (c .before .before .before .before .before .before .before .before .before .before .pre .0) (c .before .before .before .before .before .before .before .before .before .before .pre .3) _ b n _ _ g)))
+    let c3 = c .before .before .before in
+    let c5 = c3 .before .before in
+    let c6 = c5 .before in
+    let c10 = c6 .before .before .before .before in
+    let z = c6 .block-size .ensures in
+    let n = c5 .if1 .left in
+    let g = c3 .put-fields .ensures in
+    simp length-set (omega (arith, behind (c10 .pre) _ z n, on-length (on₁ (c10 .pre) _ z n _ _ g)))
 
 xor-of-requires : tie.Need-xor-of-requires
 xor-of-requires c κs = search needs
@@ -134,17 +152,25 @@ add-draft-2 c = search needs
 
 slice-write-draft-3 : tie.Need-slice-write-draft-3
 slice-write-draft-3 c =
-    let a = c .before .before .before .before .before .before .before .before .before .before .before .before .args in
-    let b = c .before .before .before .before .before .before .before .before .block-size .ensures in
-    let n = c .before .before .before .before .before .before .before .if1 .left in
-    let g = c .before .before .before .before .before .put-fields .ensures in
-    simp length-set (omega (arith, fields-fit (a .at) (fieldsOf (a .media) (a .item .now) (a .owner .now) (a .usage)) (a .draft .now) (c .before .before .before .before .before .before .before .before .before .before .before .before .pre .0) (c .before .before .before .before .before .before .before .before .before .before .before .before .pre .3) _ b n, on-length (on₁ (a .at) (fieldsOf (a .media) (a .item .now) (a .owner .now) (a .usage)) (a .draft .now) (c .before .before .before .before .before .before .before .before .before .before .before .before .pre .0) (c .before .before .before .before .before .before .before .before .before .before .before .before .pre .3) _ b n _ _ g)))
+    let c5 = c .before .before .before .before .before in
+    let c7 = c5 .before .before in
+    let c8 = c7 .before in
+    let c12 = c8 .before .before .before .before in
+    let z = c8 .block-size .ensures in
+    let n = c7 .if1 .left in
+    let g = c5 .put-fields .ensures in
+    simp length-set (omega (arith, behind (c12 .pre) _ z n, on-length (on₁ (c12 .pre) _ z n _ _ g)))
 
 same-length : tie.Need-same-length
 same-length c = search needs
 
 returns-2 : tie.Need-returns-2
-returns-2 c = let a = c .before .before .before .before .before .before .before .before .before .before .before .before .args in ended (a .at) (fieldsOf (a .media) (a .item .now) (a .owner .now) (a .usage)) (a .draft .now) (c .before .before .before .before .before .before .before .before .before .before .before .before .pre .0) (c .before .before .before .before .before .before .before .before .before .before .before .before .pre .3) _ (c .before .before .before .before .before .before .before .before .block-size .ensures) (c .before .before .before .before .before .before .before .if1 .left) _ _ (c .before .before .before .before .before .put-fields .ensures) _ (c .xor-of .ensures)
+returns-2 c =
+    let c5 = c .before .before .before .before .before in
+    let c7 = c5 .before .before in
+    let c8 = c7 .before in
+    let c12 = c8 .before .before .before .before in
+    ended (c12 .pre) _ (c8 .block-size .ensures) (c7 .if1 .left) _ _ (c5 .put-fields .ensures) _ (c .xor-of .ensures)
 
 pub put-block-spec : {M : Type 1} → statement M
 put-block-spec =

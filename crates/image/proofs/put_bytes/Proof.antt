@@ -5,7 +5,7 @@ use native.Mathlib.Omega.{arith}
 use lib.ListN.{length}
 use borrow.Author.Needs.{needs}
 use Rattle.format.proofs.Pieces.{stored-copy}
-use Rattle.image.proofs.Emitting.{emitted}
+use Rattle.image.proofs.Drafts.{emitted}
 use Rattle.image.proofs.put_bytes.Statement.{statement}
 use Rattle.image.proofs.put_bytes.Tie as tie
 

@@ -2,28 +2,26 @@
 use mathlib.Core.Path.{_≡_, refl, sym, ap, _∙_}
 use Prim.Native.Nat.{ℕ, suc, _+_, _≤_, _<_}
 use native.Mathlib.Omega.{arith}
-use mathlib.Core.Bool.{false}
 use mathlib.Core.List.{List, [], _∷_, _++_, append-assoc}
 use lib.ListN.{length, set, length-append}
 use borrow.Author.Needs.{needs}
 use Rattle.format.specs.Bytes.{isEmpty}
 use Rattle.format.specs.Chain.{libraryBytes}
-use Rattle.image.specs.Laying.{fieldsOf, Behind, Blank, laidAt}
-use Rattle.image.proofs.Emitting.{On, blank-byte, start, on-length, on-blank, after, after-gap, after-byte}
-use Rattle.image.proofs.Libraries.{with-usage, with-owner, without-owner, bytes-least}
+use Rattle.image.specs.Laying.{fieldsOf, FieldsFit, Blank, laidAt}
+use Rattle.image.proofs.Drafts.{On, blank-byte, start, on-length, on-blank, after, after-gap, after-byte}
+use Rattle.image.proofs.BlockBytes.{with-usage, with-owner, without-owner, bytes-least}
 use Rattle.image.proofs.put_fields.Statement.{statement}
 use Rattle.image.proofs.put_fields.Tie as tie
 
-module _ (at m u : ℕ) (item owner d : List ℕ) (clear : Blank at d) (g : Behind item owner)
-    (some : isEmpty (libraryBytes (fieldsOf m item owner u)) ≡ false) (room : at + length (libraryBytes (fieldsOf m item owner u)) ≤ length d) where
+module _ {at m u : ℕ} {item owner d : List ℕ} (p : FieldsFit at m u item owner d) where
   abbrev all : List ℕ
   all = libraryBytes (fieldsOf m item owner u)
 
   least : suc (length item) ≤ length all
-  least = bytes-least m u item owner g some
+  least = bytes-least m u item owner (p .given) (p .some)
 
   begun : On at (m ∷ []) d (set d at m)
-  begun = let l = least in after-byte (start at d (omega arith) clear) at m (omega arith) (omega arith)
+  begun = let l = least in after-byte (start at d (omega arith) (p .blank)) at m (omega arith) (omega arith)
 
   item-fits : (at + 1 + length item ≤ length (set d at m)) × Blank (at + 1) (set d at m)
   item-fits = let l = least in (omega (arith, on-length begun), on-blank begun (at + 1) (omega arith) (omega arith))
@@ -50,7 +48,7 @@ module _ (at m u : ℕ) (item owner d : List ℕ) (clear : Blank at d) (g : Behi
 
     module _ (n : u ≡ 0 → ⊥) where
       usage-all : all ≡ ((m ∷ item) ++ (0 ∷ owner)) ++ (0 ∷ u ∷ [])
-      usage-all = with-usage m item owner g u n ∙ sym (append-assoc (m ∷ item) (0 ∷ owner) (0 ∷ u ∷ []))
+      usage-all = with-usage m item owner (p .given) u n ∙ sym (append-assoc (m ∷ item) (0 ∷ owner) (0 ∷ u ∷ []))
 
       usage-length : length all ≡ length item + length owner + 4
       usage-length = ap length usage-all ∙ length-append ((m ∷ item) ++ (0 ∷ owner)) (0 ∷ u ∷ []) ∙ omega (arith, length-append (m ∷ item) (0 ∷ owner))
@@ -61,6 +59,9 @@ module _ (at m u : ℕ) (item owner d : List ℕ) (clear : Blank at d) (g : Behi
       module _ (j : ℕ) (d₂ : List ℕ) (e₂ : (j ≡ i + 1 + length owner) × (d₂ ≡ laidAt (i + 1) owner d₁)) where
         inside : j + 1 < length d
         inside = let l = usage-length in let k = e₁ .0 in let h = e₂ .0 in omega arith
+
+        inside₂ : j + 1 < length d₂
+        inside₂ = omega (arith, on-length (third usage-long j d₂ e₂), inside)
 
         fourth : On at (((m ∷ item) ++ (0 ∷ owner)) ++ (0 ∷ u ∷ [])) d (set d₂ (j + 1) u)
         fourth =
@@ -85,7 +86,7 @@ module _ (at m u : ℕ) (item owner d : List ℕ) (clear : Blank at d) (g : Behi
 
       module _ (n : length owner ≡ 0 → ⊥) where
         owner-all : all ≡ (m ∷ item) ++ (0 ∷ owner)
-        owner-all = no-usage ∙ with-owner m item owner g n
+        owner-all = no-usage ∙ with-owner m item owner (p .given) n
 
         owner-long : at + length item + length owner + 2 ≤ length d
         owner-long = omega (arith, ap length owner-all, length-append (m ∷ item) (0 ∷ owner))
@@ -99,64 +100,95 @@ module _ (at m u : ℕ) (item owner d : List ℕ) (clear : Blank at d) (g : Behi
       item-ended : length owner ≡ 0 → (i ≡ at + length all) × (d₁ ≡ laidAt at all d)
       item-ended none =
           let k = e₁ .0 in
-          ended (m ∷ item) d₁ i (no-usage ∙ without-owner m item owner g none (sym (ap isEmpty no-usage) ∙ some)) (omega arith) second
+          ended (m ∷ item) d₁ i (no-usage ∙ without-owner m item owner (p .given) none (sym (ap isEmpty no-usage) ∙ p .some)) (omega arith) second
 
 slice-write-draft : tie.Need-slice-write-draft
-slice-write-draft c = let a = c .before .before .before .args in omega (arith, least (a .at) (a .media) (a .usage) (a .item .now) (a .owner .now) (a .draft .now) (c .before .before .before .pre .0) (c .before .before .before .pre .1) (c .before .before .before .pre .2) (c .before .before .before .pre .3))
+slice-write-draft c = omega (arith, least (c .before .before .before .pre))
 
 add-put-bytes : tie.Need-add-put-bytes
 add-put-bytes c = search needs
 
 put-bytes-requires : tie.Need-put-bytes-requires
-put-bytes-requires c κs = let a = c .before .before .before .before .args in item-fits (a .at) (a .media) (a .usage) (a .item .now) (a .owner .now) (a .draft .now) (c .before .before .before .before .pre .0) (c .before .before .before .before .pre .1) (c .before .before .before .before .pre .2) (c .before .before .before .before .pre .3)
+put-bytes-requires c κs = item-fits (c .before .before .before .before .pre)
 
 add-put-bytes-2 : tie.Need-add-put-bytes-2
 add-put-bytes-2 c = search needs
 
 put-bytes-requires-2 : tie.Need-put-bytes-requires-2
 put-bytes-requires-2 c κs =
-    let a = c .before .before .before .before .before .before .before .before .before .args in
-    owner-fits (a .at) (a .media) (a .usage) (a .item .now) (a .owner .now) (a .draft .now) (c .before .before .before .before .before .before .before .before .before .pre .0) (c .before .before .before .before .before .before .before .before .before .pre .1) (c .before .before .before .before .before .before .before .before .before .pre .2) (c .before .before .before .before .before .before .before .before .before .pre .3) _ _ (c .before .before .before .before .put-bytes .ensures) (usage-long (a .at) (a .media) (a .usage) (a .item .now) (a .owner .now) (a .draft .now) (c .before .before .before .before .before .before .before .before .before .pre .0) (c .before .before .before .before .before .before .before .before .before .pre .1) (c .before .before .before .before .before .before .before .before .before .pre .2) (c .before .before .before .before .before .before .before .before .before .pre .3) _ _ (c .before .before .before .before .put-bytes .ensures) (c .before .if1 .taken))
+    let c1 = c .before in
+    let c4 = c1 .before .before .before in
+    let c9 = c4 .before .before .before .before .before in
+    owner-fits (c9 .pre) _ _ (c4 .put-bytes .ensures) (usage-long (c9 .pre) _ _ (c4 .put-bytes .ensures) (c1 .if1 .taken))
 
 add-draft : tie.Need-add-draft
 add-draft c = search needs
 
 slice-write-draft-2 : tie.Need-slice-write-draft-2
 slice-write-draft-2 c =
-    let a = c .before .before .before .before .before .before .before .before .before .before .before .before .args in
-    let t = third (a .at) (a .media) (a .usage) (a .item .now) (a .owner .now) (a .draft .now) (c .before .before .before .before .before .before .before .before .before .before .before .before .pre .0) (c .before .before .before .before .before .before .before .before .before .before .before .before .pre .1) (c .before .before .before .before .before .before .before .before .before .before .before .before .pre .2) (c .before .before .before .before .before .before .before .before .before .before .before .before .pre .3) _ _ (c .before .before .before .before .before .before .before .put-bytes .ensures) (usage-long (a .at) (a .media) (a .usage) (a .item .now) (a .owner .now) (a .draft .now) (c .before .before .before .before .before .before .before .before .before .before .before .before .pre .0) (c .before .before .before .before .before .before .before .before .before .before .before .before .pre .1) (c .before .before .before .before .before .before .before .before .before .before .before .before .pre .2) (c .before .before .before .before .before .before .before .before .before .before .before .before .pre .3) _ _ (c .before .before .before .before .before .before .before .put-bytes .ensures) (c .before .before .before .before .if1 .taken)) _ _ (c .before .before .put-bytes2 .ensures) in
-    omega (arith, on-length t, inside (a .at) (a .media) (a .usage) (a .item .now) (a .owner .now) (a .draft .now) (c .before .before .before .before .before .before .before .before .before .before .before .before .pre .0) (c .before .before .before .before .before .before .before .before .before .before .before .before .pre .1) (c .before .before .before .before .before .before .before .before .before .before .before .before .pre .2) (c .before .before .before .before .before .before .before .before .before .before .before .before .pre .3) _ _ (c .before .before .before .before .before .before .before .put-bytes .ensures) (c .before .before .before .before .if1 .taken) _ _ (c .before .before .put-bytes2 .ensures))
+    let c2 = c .before .before in
+    let c4 = c2 .before .before in
+    let c7 = c4 .before .before .before in
+    let c12 = c7 .before .before .before .before .before in
+    inside₂ (c12 .pre) _ _ (c7 .put-bytes .ensures) (c4 .if1 .taken) _ _ (c2 .put-bytes2 .ensures)
 
 add-result : tie.Need-add-result
 add-result c = search needs
 
 same-length : tie.Need-same-length
-same-length c = let a = c .before .before .before .before .before .before .before .before .before .before .before .before .args in on-length (fourth (a .at) (a .media) (a .usage) (a .item .now) (a .owner .now) (a .draft .now) (c .before .before .before .before .before .before .before .before .before .before .before .before .pre .0) (c .before .before .before .before .before .before .before .before .before .before .before .before .pre .1) (c .before .before .before .before .before .before .before .before .before .before .before .before .pre .2) (c .before .before .before .before .before .before .before .before .before .before .before .before .pre .3) _ _ (c .before .before .before .before .before .before .before .put-bytes .ensures) (c .before .before .before .before .if1 .taken) _ _ (c .before .before .put-bytes2 .ensures))
+same-length c =
+    let c2 = c .before .before in
+    let c4 = c2 .before .before in
+    let c7 = c4 .before .before .before in
+    let c12 = c7 .before .before .before .before .before in
+    on-length (fourth (c12 .pre) _ _ (c7 .put-bytes .ensures) (c4 .if1 .taken) _ _ (c2 .put-bytes2 .ensures))
 
 returns : tie.Need-returns
-returns c = let a = c .before .before .before .before .before .before .before .before .before .before .before .before .args in usage-ended (a .at) (a .media) (a .usage) (a .item .now) (a .owner .now) (a .draft .now) (c .before .before .before .before .before .before .before .before .before .before .before .before .pre .0) (c .before .before .before .before .before .before .before .before .before .before .before .before .pre .1) (c .before .before .before .before .before .before .before .before .before .before .before .before .pre .2) (c .before .before .before .before .before .before .before .before .before .before .before .before .pre .3) _ _ (c .before .before .before .before .before .before .before .put-bytes .ensures) (c .before .before .before .before .if1 .taken) _ _ (c .before .before .put-bytes2 .ensures)
+returns c =
+    let c2 = c .before .before in
+    let c4 = c2 .before .before in
+    let c7 = c4 .before .before .before in
+    let c12 = c7 .before .before .before .before .before in
+    usage-ended (c12 .pre) _ _ (c7 .put-bytes .ensures) (c4 .if1 .taken) _ _ (c2 .put-bytes2 .ensures)
 
 add-put-bytes-3 : tie.Need-add-put-bytes-3
 add-put-bytes-3 c = search needs
 
 put-bytes-requires-3 : tie.Need-put-bytes-requires-3
 put-bytes-requires-3 c κs =
-    let a = c .before .before .before .before .before .before .before .before .before .before .args in
-    owner-fits (a .at) (a .media) (a .usage) (a .item .now) (a .owner .now) (a .draft .now) (c .before .before .before .before .before .before .before .before .before .before .pre .0) (c .before .before .before .before .before .before .before .before .before .before .pre .1) (c .before .before .before .before .before .before .before .before .before .before .pre .2) (c .before .before .before .before .before .before .before .before .before .before .pre .3) _ _ (c .before .before .before .before .before .put-bytes .ensures) (owner-long (a .at) (a .media) (a .usage) (a .item .now) (a .owner .now) (a .draft .now) (c .before .before .before .before .before .before .before .before .before .before .pre .0) (c .before .before .before .before .before .before .before .before .before .before .pre .1) (c .before .before .before .before .before .before .before .before .before .before .pre .2) (c .before .before .before .before .before .before .before .before .before .before .pre .3) _ _ (c .before .before .before .before .before .put-bytes .ensures) (c .before .before .if1 .left) (c .before .if2 .taken))
+    let c1 = c .before in
+    let c2 = c1 .before in
+    let c5 = c2 .before .before .before in
+    let c10 = c5 .before .before .before .before .before in
+    owner-fits (c10 .pre) _ _ (c5 .put-bytes .ensures) (owner-long (c10 .pre) _ _ (c5 .put-bytes .ensures) (c2 .if1 .left) (c1 .if2 .taken))
 
 same-length-2 : tie.Need-same-length-2
 same-length-2 c =
-    let a = c .before .before .before .before .before .before .before .before .before .before .before .before .before .args in
-    on-length (third (a .at) (a .media) (a .usage) (a .item .now) (a .owner .now) (a .draft .now) (c .before .before .before .before .before .before .before .before .before .before .before .before .before .pre .0) (c .before .before .before .before .before .before .before .before .before .before .before .before .before .pre .1) (c .before .before .before .before .before .before .before .before .before .before .before .before .before .pre .2) (c .before .before .before .before .before .before .before .before .before .before .before .before .before .pre .3) _ _ (c .before .before .before .before .before .before .before .before .put-bytes .ensures) (owner-long (a .at) (a .media) (a .usage) (a .item .now) (a .owner .now) (a .draft .now) (c .before .before .before .before .before .before .before .before .before .before .before .before .before .pre .0) (c .before .before .before .before .before .before .before .before .before .before .before .before .before .pre .1) (c .before .before .before .before .before .before .before .before .before .before .before .before .before .pre .2) (c .before .before .before .before .before .before .before .before .before .before .before .before .before .pre .3) _ _ (c .before .before .before .before .before .before .before .before .put-bytes .ensures) (c .before .before .before .before .before .if1 .left) (c .before .before .before .before .if2 .taken)) _ _ (c .before .before .put-bytes3 .ensures))
+    let c2 = c .before .before in
+    let c4 = c2 .before .before in
+    let c5 = c4 .before in
+    let c8 = c5 .before .before .before in
+    let c13 = c8 .before .before .before .before .before in
+    on-length (third (c13 .pre) _ _ (c8 .put-bytes .ensures) (owner-long (c13 .pre) _ _ (c8 .put-bytes .ensures) (c5 .if1 .left) (c4 .if2 .taken)) _ _ (c2 .put-bytes3 .ensures))
 
 returns-2 : tie.Need-returns-2
-returns-2 c = let a = c .before .before .before .before .before .before .before .before .before .before .before .before .before .args in owner-ended (a .at) (a .media) (a .usage) (a .item .now) (a .owner .now) (a .draft .now) (c .before .before .before .before .before .before .before .before .before .before .before .before .before .pre .0) (c .before .before .before .before .before .before .before .before .before .before .before .before .before .pre .1) (c .before .before .before .before .before .before .before .before .before .before .before .before .before .pre .2) (c .before .before .before .before .before .before .before .before .before .before .before .before .before .pre .3) _ _ (c .before .before .before .before .before .before .before .before .put-bytes .ensures) (c .before .before .before .before .before .if1 .left) (c .before .before .before .before .if2 .taken) _ _ (c .before .before .put-bytes3 .ensures)
+returns-2 c =
+    let c2 = c .before .before in
+    let c4 = c2 .before .before in
+    let c5 = c4 .before in
+    let c8 = c5 .before .before .before in
+    let c13 = c8 .before .before .before .before .before in
+    owner-ended (c13 .pre) _ _ (c8 .put-bytes .ensures) (c5 .if1 .left) (c4 .if2 .taken) _ _ (c2 .put-bytes3 .ensures)
 
 same-length-3 : tie.Need-same-length-3
-same-length-3 c = let a = c .before .before .before .before .before .before .before .before .before .args in on-length (second (a .at) (a .media) (a .usage) (a .item .now) (a .owner .now) (a .draft .now) (c .before .before .before .before .before .before .before .before .before .pre .0) (c .before .before .before .before .before .before .before .before .before .pre .1) (c .before .before .before .before .before .before .before .before .before .pre .2) (c .before .before .before .before .before .before .before .before .before .pre .3) _ _ (c .before .before .before .before .put-bytes .ensures))
+same-length-3 c = on-length (second (c .before .before .before .before .before .before .before .before .before .pre) _ _ (c .before .before .before .before .put-bytes .ensures))
 
 returns-3 : tie.Need-returns-3
-returns-3 c = let a = c .before .before .before .before .before .before .before .before .before .args in item-ended (a .at) (a .media) (a .usage) (a .item .now) (a .owner .now) (a .draft .now) (c .before .before .before .before .before .before .before .before .before .pre .0) (c .before .before .before .before .before .before .before .before .before .pre .1) (c .before .before .before .before .before .before .before .before .before .pre .2) (c .before .before .before .before .before .before .before .before .before .pre .3) _ _ (c .before .before .before .before .put-bytes .ensures) (c .before .if1 .left) (c .if2 .left)
+returns-3 c =
+    let c1 = c .before in
+    let c4 = c1 .before .before .before in
+    let c9 = c4 .before .before .before .before .before in
+    item-ended (c9 .pre) _ _ (c4 .put-bytes .ensures) (c1 .if1 .left) (c .if2 .left)
 
 pub put-fields-spec : {M : Type 1} → statement M
 put-fields-spec =

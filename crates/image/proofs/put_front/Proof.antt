@@ -11,7 +11,7 @@ use Rattle.format.specs.Fields.{marker, long, itemField}
 use Rattle.format.specs.Elements.{numbers, placeIn, place}
 use Rattle.format.specs.Layout.{firstByte, front}
 use Rattle.image.specs.Laying.{zeros, Blank, laidAt, frontOf}
-use Rattle.image.proofs.Emitting.{laid-padded, On, start, on-length, on-blank, after, after-byte}
+use Rattle.image.proofs.Drafts.{laid-padded, On, start, on-length, on-blank, after, after-byte}
 use Rattle.image.proofs.put_front.Statement.{statement}
 use Rattle.image.proofs.put_front.Tie as tie
 
@@ -80,23 +80,32 @@ same-length : tie.Need-same-length
 same-length c = search needs
 
 returns : tie.Need-returns
-returns c = let a = c .before .before .before .before .before .before .before .before .args in marked (a .draft .now) (a .item .now) (a .set .now) (a .usage .now) (c .before .before .before .before .before .before .before .before .pre .0) (c .before .before .before .before .before .before .before .before .pre .1) (c .if1 .taken)
+returns c =
+    let c8 = c .before .before .before .before .before .before .before .before in
+    let a = c8 .args in marked (a .draft .now) (a .item .now) (a .set .now) (a .usage .now) (c8 .pre .0) (c8 .pre .1) (c .if1 .taken)
 
 put-bytes-requires : tie.Need-put-bytes-requires
 put-bytes-requires c κs =
-    let a = c .before .before .before .before .before .before .before .before .before .args in
-    let o = begun (a .draft .now) (a .item .now) (a .set .now) (a .usage .now) (c .before .before .before .before .before .before .before .before .before .pre .0) (c .before .before .before .before .before .before .before .before .before .pre .1) in
+    let c9 = c .before .before .before .before .before .before .before .before .before in
+    let a = c9 .args in
+    let o = begun (a .draft .now) (a .item .now) (a .set .now) (a .usage .now) (c9 .pre .0) (c9 .pre .1) in
     (omega (arith, on-length o), on-blank o 3 (omega arith) (omega arith))
 
 same-length-2 : tie.Need-same-length-2
 same-length-2 c =
-    let a = c .before .before .before .before .before .before .before .before .before .before .before .before .args in
-    on-length (with-item (a .draft .now) (a .item .now) (a .set .now) (a .usage .now) (c .before .before .before .before .before .before .before .before .before .before .before .before .pre .0) (c .before .before .before .before .before .before .before .before .before .before .before .before .pre .1) _ (c .before .before .before .before .if1 .left) (c .before .before .put-bytes .ensures .1))
+    let c2 = c .before .before in
+    let c4 = c2 .before .before in
+    let c12 = c4 .before .before .before .before .before .before .before .before in
+    let a = c12 .args in
+    on-length (with-item (a .draft .now) (a .item .now) (a .set .now) (a .usage .now) (c12 .pre .0) (c12 .pre .1) _ (c4 .if1 .left) (c2 .put-bytes .ensures .1))
 
 returns-2 : tie.Need-returns-2
 returns-2 c =
-    let a = c .before .before .before .before .before .before .before .before .before .before .before .before .args in
-    unmarked (a .draft .now) (a .item .now) (a .set .now) (a .usage .now) (c .before .before .before .before .before .before .before .before .before .before .before .before .pre .0) (c .before .before .before .before .before .before .before .before .before .before .before .before .pre .1) _ (c .before .before .before .before .if1 .left) (c .before .before .put-bytes .ensures .1)
+    let c2 = c .before .before in
+    let c4 = c2 .before .before in
+    let c12 = c4 .before .before .before .before .before .before .before .before in
+    let a = c12 .args in
+    unmarked (a .draft .now) (a .item .now) (a .set .now) (a .usage .now) (c12 .pre .0) (c12 .pre .1) _ (c4 .if1 .left) (c2 .put-bytes .ensures .1)
 
 pub put-front-spec : {M : Type 1} → statement M
 put-front-spec =

@@ -2,23 +2,28 @@
 use mathlib.Core.Path.{_≡_, refl, sym, ap, _∙_}
 use Prim.Native.Nat.{ℕ, _+_, _-_, _≤_}
 use native.Mathlib.Omega.{arith}
-use mathlib.Core.Bool.{true}
 use mathlib.Core.List.{List, [], _∷_}
-use lib.ListN.{length, take, drop, set, length-set, length-drop}
+use lib.ListN.{length, take, drop, getD, set, length-set, length-drop}
 use lib.Seq.{take-all}
 use borrow.Author.Needs.{needs}
-use Rattle.format.specs.Fields.{isil, blank, packed}
-use Rattle.image.specs.Laying.{Blank, laidAt}
-use Rattle.image.proofs.Emitting.{On, start, on-length, on-blank, after, after-byte}
-use Rattle.image.proofs.Owners.{prefixed, prefixed-long, one-capital, short-two}
+use Rattle.format.specs.Fields.{hyphen, blank, packed}
+use Rattle.image.specs.Laying.{Blank, laidAt, IsilFits}
+use Rattle.image.proofs.Drafts.{On, start, on-length, on-blank, after, after-byte}
+use Rattle.image.proofs.OwnerForms.{prefixed, prefixed-long, one-capital, short-two}
 use Rattle.image.proofs.put_isil.Statement.{statement}
 use Rattle.image.proofs.put_isil.Tie as tie
 
-long : (o : List ℕ) → isil o ≡ true → 3 ≤ length o
-long o e = prefixed-long (prefixed o e)
+long : {o d : List ℕ} → IsilFits o d → 3 ≤ length o
+long {o} p = prefixed-long (prefixed o (p .good))
+
+one : {o d : List ℕ} → IsilFits o d → getD o 1 0 ≡ hyphen → packed o ≡ getD o 0 0 ∷ blank ∷ drop 2 o
+one {o} p e = one-capital (prefixed o (p .good)) e .packs
+
+two : {o d : List ℕ} → IsilFits o d → (getD o 1 0 ≡ hyphen → ⊥) → packed o ≡ getD o 0 0 ∷ getD o 1 0 ∷ drop 3 o
+two {o} p n = short-two (prefixed o (p .good)) n (p .short) .packs
 
 -- the packed form is two bytes a and b, and what the owner has from byte k on
-module _ (d o : List ℕ) (a b k : ℕ) (clear : Blank 21 d) (good : isil o ≡ true) (room : 21 + length (packed o) ≤ length d) (packs : packed o ≡ a ∷ b ∷ drop k o) where
+module _ {o d : List ℕ} (p : IsilFits o d) (a b k : ℕ) (packs : packed o ≡ a ∷ b ∷ drop k o) where
   abbrev d₂ : List ℕ
   d₂ = set (set d 21 a) 22 b
 
@@ -30,11 +35,11 @@ module _ (d o : List ℕ) (a b k : ℕ) (clear : Blank 21 d) (good : isil o ≡ 
 
   begun : On 21 (a ∷ b ∷ []) d d₂
   begun =
-      let l = ap length packs in
-      after-byte (after-byte (start 21 d (omega arith) clear) 21 a refl (omega arith)) 22 b refl (omega arith)
+      let l = ap length packs in let r = p .room in
+      after-byte (after-byte (start 21 d (omega arith) (p .blank)) 21 a refl (omega arith)) 22 b refl (omega arith)
 
   fits : (23 + length unit ≤ length d₂) × Blank 23 d₂
-  fits = let l = ap length packs in let u = ap length unit-is in (omega (arith, on-length begun), on-blank begun 23 (omega arith) (omega arith))
+  fits = let l = ap length packs in let r = p .room in let u = ap length unit-is in (omega (arith, on-length begun), on-blank begun 23 (omega arith) (omega arith))
 
   module _ (d′ : List ℕ) (e : d′ ≡ laidAt 23 unit d₂) where
     done : On 21 (a ∷ b ∷ unit) d d′
@@ -44,76 +49,70 @@ module _ (d o : List ℕ) (a b k : ℕ) (clear : Blank 21 d) (good : isil o ≡ 
     ended = done .is ∙ ap (λ (s : List ℕ). laidAt 21 s d) (ap (λ (u : List ℕ). a ∷ b ∷ u) unit-is ∙ sym packs)
 
 shared-slice-read-draft : tie.Need-shared-slice-read-draft
-shared-slice-read-draft c = omega (arith, long (c .before .before .before .args .owner .now) (c .before .before .before .pre .2))
+shared-slice-read-draft c = omega (arith, long (c .before .before .before .pre))
 
 slice-write-draft : tie.Need-slice-write-draft
 slice-write-draft c = search needs
 
 shared-slice-read-if1 : tie.Need-shared-slice-read-if1
-shared-slice-read-if1 c = omega (arith, long (c .before .before .before .before .args .owner .now) (c .before .before .before .before .pre .2))
+shared-slice-read-if1 c = omega (arith, long (c .before .before .before .before .pre))
 
 slice-write-draft-2 : tie.Need-slice-write-draft-2
 slice-write-draft-2 c = simp length-set (omega arith)
 
 sub-put-bytes : tie.Need-sub-put-bytes
-sub-put-bytes c = omega (arith, long (c .before .before .before .before .before .before .args .owner .now) (c .before .before .before .before .before .before .pre .2))
+sub-put-bytes c = omega (arith, long (c .before .before .before .before .before .before .pre))
 
 part-put-bytes-start : tie.Need-part-put-bytes-start
-part-put-bytes-start c = omega (arith, long (c .before .before .before .before .before .before .args .owner .now) (c .before .before .before .before .before .before .pre .2))
+part-put-bytes-start c = omega (arith, long (c .before .before .before .before .before .before .pre))
 
 part-put-bytes-end : tie.Need-part-put-bytes-end
 part-put-bytes-end c = search needs
 
 put-bytes-requires : tie.Need-put-bytes-requires
 put-bytes-requires c κs =
-    let a = c .before .before .before .before .before .before .before .args in
     let p = c .before .before .before .before .before .before .before .pre in
-    fits (a .draft .now) (a .owner .now) _ blank 2 (p .1) (p .2) (p .3) (one-capital (prefixed (a .owner .now) (p .2)) (c .before .before .if1 .taken) .packs)
+    fits p _ blank 2 (one p (c .before .before .if1 .taken))
 
 same-length : tie.Need-same-length
 same-length c =
-    let a = c .before .before .before .before .before .before .before .before .before .before .args in
     let p = c .before .before .before .before .before .before .before .before .before .before .pre in
-    on-length (done (a .draft .now) (a .owner .now) _ blank 2 (p .1) (p .2) (p .3) (one-capital (prefixed (a .owner .now) (p .2)) (c .before .before .before .before .before .if1 .taken) .packs) _ (c .before .before .put-bytes .ensures .1))
+    on-length (done p _ blank 2 (one p (c .before .before .before .before .before .if1 .taken)) _ (c .before .before .put-bytes .ensures .1))
 
 returns : tie.Need-returns
 returns c =
-    let a = c .before .before .before .before .before .before .before .before .before .before .args in
     let p = c .before .before .before .before .before .before .before .before .before .before .pre in
-    ended (a .draft .now) (a .owner .now) _ blank 2 (p .1) (p .2) (p .3) (one-capital (prefixed (a .owner .now) (p .2)) (c .before .before .before .before .before .if1 .taken) .packs) _ (c .before .before .put-bytes .ensures .1)
+    ended p _ blank 2 (one p (c .before .before .before .before .before .if1 .taken)) _ (c .before .before .put-bytes .ensures .1)
 
 shared-slice-read-draft-2 : tie.Need-shared-slice-read-draft-2
-shared-slice-read-draft-2 c = omega (arith, long (c .before .before .before .before .before .before .args .owner .now) (c .before .before .before .before .before .before .pre .2))
+shared-slice-read-draft-2 c = omega (arith, long (c .before .before .before .before .before .before .pre))
 
 slice-write-draft-3 : tie.Need-slice-write-draft-3
 slice-write-draft-3 c = simp length-set (omega arith)
 
 sub-put-bytes-2 : tie.Need-sub-put-bytes-2
-sub-put-bytes-2 c = omega (arith, long (c .before .before .before .before .before .before .before .args .owner .now) (c .before .before .before .before .before .before .before .pre .2))
+sub-put-bytes-2 c = omega (arith, long (c .before .before .before .before .before .before .before .pre))
 
 part-put-bytes-start-2 : tie.Need-part-put-bytes-start-2
-part-put-bytes-start-2 c = omega (arith, long (c .before .before .before .before .before .before .before .args .owner .now) (c .before .before .before .before .before .before .before .pre .2))
+part-put-bytes-start-2 c = omega (arith, long (c .before .before .before .before .before .before .before .pre))
 
 part-put-bytes-end-2 : tie.Need-part-put-bytes-end-2
 part-put-bytes-end-2 c = search needs
 
 put-bytes-requires-2 : tie.Need-put-bytes-requires-2
 put-bytes-requires-2 c κs =
-    let a = c .before .before .before .before .before .before .before .before .args in
     let p = c .before .before .before .before .before .before .before .before .pre in
-    fits (a .draft .now) (a .owner .now) _ _ 3 (p .1) (p .2) (p .3) (short-two (prefixed (a .owner .now) (p .2)) (c .before .before .before .if1 .left) (p .4) .packs)
+    fits p _ _ 3 (two p (c .before .before .before .if1 .left))
 
 same-length-2 : tie.Need-same-length-2
 same-length-2 c =
-    let a = c .before .before .before .before .before .before .before .before .before .before .before .args in
     let p = c .before .before .before .before .before .before .before .before .before .before .before .pre in
-    on-length (done (a .draft .now) (a .owner .now) _ _ 3 (p .1) (p .2) (p .3) (short-two (prefixed (a .owner .now) (p .2)) (c .before .before .before .before .before .before .if1 .left) (p .4) .packs) _ (c .before .before .put-bytes2 .ensures .1))
+    on-length (done p _ _ 3 (two p (c .before .before .before .before .before .before .if1 .left)) _ (c .before .before .put-bytes2 .ensures .1))
 
 returns-2 : tie.Need-returns-2
 returns-2 c =
-    let a = c .before .before .before .before .before .before .before .before .before .before .before .args in
     let p = c .before .before .before .before .before .before .before .before .before .before .before .pre in
-    ended (a .draft .now) (a .owner .now) _ _ 3 (p .1) (p .2) (p .3) (short-two (prefixed (a .owner .now) (p .2)) (c .before .before .before .before .before .before .if1 .left) (p .4) .packs) _ (c .before .before .put-bytes2 .ensures .1)
+    ended p _ _ 3 (two p (c .before .before .before .before .before .before .if1 .left)) _ (c .before .before .put-bytes2 .ensures .1)
 
 pub put-isil-spec : {M : Type 1} → statement M
 put-isil-spec =

@@ -10,12 +10,12 @@ use Rattle.format.specs.Chain.{Library, blockOne}
 use Rattle.format.specs.Layout.{ownerWidth, library, basic, laidOut, image}
 use Rattle.format.proofs.Layouts.{basic-length, fits-parts}
 use Rattle.image.specs.Laying.{owned, basicOf, libraryOf, LibraryFits, Buildable, Blank, laidAt}
-use Rattle.image.proofs.Emitting.{On, on-length, on-blank, after}
+use Rattle.image.proofs.Drafts.{On, on-length, on-blank, after}
 use Rattle.image.proofs.Placing.{basic-of, library-of, laid-size}
 use Rattle.image.proofs.put_layout.Statement.{statement}
 use Rattle.image.proofs.put_layout.Tie as tie
 
-module _ (d₀ item owner info usage media second carried : List ℕ) (b : Buildable d₀ item owner info usage media second carried) where
+module _ {d₀ item owner info usage media second carried : List ℕ} (b : Buildable d₀ item owner info usage media second carried) where
   abbrev n : ℕ
   n = length d₀
 
@@ -102,16 +102,28 @@ put-basic-requires c κs =
     (p .size, p .blank, p .given .first .owner-good, p .given .first .owner-short, p .given .set-long, p .given .usage-long)
 
 put-library-requires : tie.Need-put-library-requires
-put-library-requires c κs = let a = c .before .before .before .before .before .before .before .before .before .before .before .before .before .args in library-fits (a .draft .now) (a .item .now) (a .owner .now) (a .set .now) (a .usage .now) (a .media .now) (a .second .now) (a .carried .now) (c .before .before .before .before .before .before .before .before .before .before .before .before .before .pre) _ _ (c .before .before .before .put-basic .ensures)
+put-library-requires c κs =
+    let c3 = c .before .before .before in
+    let c13 = c3 .before .before .before .before .before .before .before .before .before .before in
+    library-fits (c13 .pre) _ _ (c3 .put-basic .ensures)
 
 put-bytes-requires : tie.Need-put-bytes-requires
-put-bytes-requires c κs = let a = c .before .before .before .before .before .before .before .before .before .before .before .before .before .before .before .before .before .args in carried-fits (a .draft .now) (a .item .now) (a .owner .now) (a .set .now) (a .usage .now) (a .media .now) (a .second .now) (a .carried .now) (c .before .before .before .before .before .before .before .before .before .before .before .before .before .before .before .before .before .pre) _ _ (c .before .before .before .before .before .before .before .put-basic .ensures) _ _ (c .before .before .before .put-library .ensures)
+put-bytes-requires c κs =
+    let c3 = c .before .before .before in
+    let c7 = c3 .before .before .before .before in
+    let c17 = c7 .before .before .before .before .before .before .before .before .before .before in
+    carried-fits (c17 .pre) _ _ (c7 .put-basic .ensures) _ _ (c3 .put-library .ensures)
 
 same-length : tie.Need-same-length
 same-length c = search needs
 
 returns : tie.Need-returns
-returns c = let a = c .before .before .before .before .before .before .before .before .before .before .before .before .before .before .before .before .before .before .before .before .args in ended (a .draft .now) (a .item .now) (a .owner .now) (a .set .now) (a .usage .now) (a .media .now) (a .second .now) (a .carried .now) (c .before .before .before .before .before .before .before .before .before .before .before .before .before .before .before .before .before .before .before .before .pre) _ _ (c .before .before .before .before .before .before .before .before .before .before .put-basic .ensures) _ _ (c .before .before .before .before .before .before .put-library .ensures) _ (c .before .before .put-bytes .ensures .1)
+returns c =
+    let c2 = c .before .before in
+    let c6 = c2 .before .before .before .before in
+    let c10 = c6 .before .before .before .before in
+    let c20 = c10 .before .before .before .before .before .before .before .before .before .before in
+    ended (c20 .pre) _ _ (c10 .put-basic .ensures) _ _ (c6 .put-library .ensures) _ (c2 .put-bytes .ensures .1)
 
 pub put-layout-spec : {M : Type 1} → statement M
 put-layout-spec =

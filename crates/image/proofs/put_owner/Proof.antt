@@ -12,8 +12,8 @@ use Rattle.format.specs.Layout.{ownerWidth}
 use Rattle.format.proofs.Tests.{not-t, not-f}
 use Rattle.format.proofs.Strings.{nil-of}
 use Rattle.image.specs.Laying.{Blank, laidAt}
-use Rattle.image.proofs.Emitting.{blank-byte, blank-later, laid-nothing, laid-padded, laid-next}
-use Rattle.image.proofs.Owners.{Alternate, low-alternate, high-isil, alternate-packed, held-short, held-prefix, basic-told}
+use Rattle.image.proofs.Drafts.{blank-byte, blank-later, laid-nothing, laid-padded, laid-next}
+use Rattle.image.proofs.OwnerForms.{Alternate, low-alternate, high-isil, alternate-packed, held-short, held-prefix, basic-told}
 use Rattle.image.proofs.put_owner.Statement.{statement}
 use Rattle.image.proofs.put_owner.Tie as tie
 
@@ -77,48 +77,77 @@ same-length c = search needs
 
 returns-2 : tie.Need-returns-2
 returns-2 c =
-    let a = c .before .before .before .before .before .before .args in
-    marked (a .draft .now) (a .owner .now) (c .before .before .before .before .before .before .pre .1) (c .before .before .before .before .before .before .pre .0) (c .before .before .before .if1 .left)
-    (told (length (a .draft .now)) _ (a .owner .now) _ false (c .before .before .before .if1 .left) (c .before .before .owner-width .ensures) (c .before .is-basic .ensures) (not-t _ (c .if2 .taken)))
+    let c1 = c .before in
+    let c2 = c1 .before in
+    let c3 = c2 .before in
+    let c6 = c3 .before .before .before in
+    let a = c6 .args in
+    marked (a .draft .now) (a .owner .now) (c6 .pre .1) (c6 .pre .0) (c3 .if1 .left)
+    (told (length (a .draft .now)) _ (a .owner .now) _ false (c3 .if1 .left) (c2 .owner-width .ensures) (c1 .is-basic .ensures) (not-t _ (c .if2 .taken)))
 
 shared-slice-read-if3 : tie.Need-shared-slice-read-if3
 shared-slice-read-if3 c = search needs
 
 put-bytes-requires : tie.Need-put-bytes-requires
 put-bytes-requires c κs =
-    let a = c .before .before .before .before .before .before .before .before .before .args in
+    let c1 = c .before in
+    let c3 = c1 .before .before in
+    let c4 = c3 .before in
+    let c5 = c4 .before in
+    let c6 = c5 .before in
+    let c9 = c6 .before .before .before in
+    let a = c9 .args in
     let o = a .owner .now in
-    other-fits (a .draft .now) o (c .before .before .before .before .before .before .before .before .before .pre .1) (c .before .before .before .before .before .before .before .before .before .pre .0) (c .before .before .before .before .before .before .if1 .left) (low-alternate o (c .before .before .before .before .before .before .before .before .before .pre .2) (c .before .before .before .before .before .before .if1 .left) (c .before .if3 .taken))
-    (told (length (a .draft .now)) _ o _ true (c .before .before .before .before .before .before .if1 .left) (c .before .before .before .before .before .owner-width .ensures) (c .before .before .before .before .is-basic .ensures) (not-f _ (c .before .before .before .if2 .left)))
+    other-fits (a .draft .now) o (c9 .pre .1) (c9 .pre .0) (c6 .if1 .left) (low-alternate o (c9 .pre .2) (c6 .if1 .left) (c1 .if3 .taken))
+    (told (length (a .draft .now)) _ o _ true (c6 .if1 .left) (c5 .owner-width .ensures) (c4 .is-basic .ensures) (not-f _ (c3 .if2 .left)))
 
 same-length-2 : tie.Need-same-length-2
 same-length-2 c = search needs
 
 returns-3 : tie.Need-returns-3
 returns-3 c =
-    let a = c .before .before .before .before .before .before .before .before .before .before .before .before .args in
+    let c2 = c .before .before in
+    let c4 = c2 .before .before in
+    let c6 = c4 .before .before in
+    let c7 = c6 .before in
+    let c8 = c7 .before in
+    let c9 = c8 .before in
+    let c12 = c9 .before .before .before in
+    let a = c12 .args in
     let o = a .owner .now in
-    other (a .draft .now) o (c .before .before .before .before .before .before .before .before .before .before .before .before .pre .1) (c .before .before .before .before .before .before .before .before .before .before .before .before .pre .0) (c .before .before .before .before .before .before .before .before .before .if1 .left) (low-alternate o (c .before .before .before .before .before .before .before .before .before .before .before .before .pre .2) (c .before .before .before .before .before .before .before .before .before .if1 .left) (c .before .before .before .before .if3 .taken))
-    (told (length (a .draft .now)) _ o _ true (c .before .before .before .before .before .before .before .before .before .if1 .left) (c .before .before .before .before .before .before .before .before .owner-width .ensures) (c .before .before .before .before .before .before .before .is-basic .ensures) (not-f _ (c .before .before .before .before .before .before .if2 .left))) _ (c .before .before .put-bytes .ensures .1)
+    other (a .draft .now) o (c12 .pre .1) (c12 .pre .0) (c9 .if1 .left) (low-alternate o (c12 .pre .2) (c9 .if1 .left) (c4 .if3 .taken))
+    (told (length (a .draft .now)) _ o _ true (c9 .if1 .left) (c8 .owner-width .ensures) (c7 .is-basic .ensures) (not-f _ (c6 .if2 .left))) _ (c2 .put-bytes .ensures .1)
 
 put-isil-requires : tie.Need-put-isil-requires
 put-isil-requires c κs =
-    let a = c .before .before .before .before .before .before .before .before .before .args in
+    let c1 = c .before in
+    let c3 = c1 .before .before in
+    let c4 = c3 .before in
+    let c5 = c4 .before in
+    let c6 = c5 .before in
+    let c9 = c6 .before .before .before in
+    let a = c9 .args in
     let o = a .owner .now in
     let w = ownerWidth (length (a .draft .now)) in
-    let i = high-isil o (c .before .before .before .before .before .before .before .before .before .pre .2) (c .before .before .before .before .before .before .if1 .left) (c .before .if3 .left) in
-    let b = told (length (a .draft .now)) _ o _ true (c .before .before .before .before .before .before .if1 .left) (c .before .before .before .before .before .owner-width .ensures) (c .before .before .before .before .is-basic .ensures) (not-f _ (c .before .before .before .if2 .left)) in
-    (c .before .before .before .before .before .before .before .before .before .pre .1, c .before .before .before .before .before .before .before .before .before .pre .0, i, omega (arith, held-short w o b), held-prefix w o i b)
+    let i = high-isil o (c9 .pre .2) (c6 .if1 .left) (c1 .if3 .left) in
+    let b = told (length (a .draft .now)) _ o _ true (c6 .if1 .left) (c5 .owner-width .ensures) (c4 .is-basic .ensures) (not-f _ (c3 .if2 .left)) in
+    record { size = c9 .pre .1; blank = c9 .pre .0; good = i; room = omega (arith, held-short w o b); short = held-prefix w o i b }
 
 same-length-3 : tie.Need-same-length-3
 same-length-3 c = search needs
 
 returns-4 : tie.Need-returns-4
 returns-4 c =
-    let a = c .before .before .before .before .before .before .before .before .before .before .before .before .args in
+    let c2 = c .before .before in
+    let c6 = c2 .before .before .before .before in
+    let c7 = c6 .before in
+    let c8 = c7 .before in
+    let c9 = c8 .before in
+    let c12 = c9 .before .before .before in
+    let a = c12 .args in
     let o = a .owner .now in
-    packs (a .draft .now) o (c .before .before .before .before .before .before .before .before .before .before .before .before .pre .1) (c .before .before .before .before .before .before .before .before .before .before .before .before .pre .0) (c .before .before .before .before .before .before .before .before .before .if1 .left)
-    (told (length (a .draft .now)) _ o _ true (c .before .before .before .before .before .before .before .before .before .if1 .left) (c .before .before .before .before .before .before .before .before .owner-width .ensures) (c .before .before .before .before .before .before .before .is-basic .ensures) (not-f _ (c .before .before .before .before .before .before .if2 .left))) _ (c .before .before .put-isil .ensures)
+    packs (a .draft .now) o (c12 .pre .1) (c12 .pre .0) (c9 .if1 .left)
+    (told (length (a .draft .now)) _ o _ true (c9 .if1 .left) (c8 .owner-width .ensures) (c7 .is-basic .ensures) (not-f _ (c6 .if2 .left))) _ (c2 .put-isil .ensures)
 
 pub put-owner-spec : {M : Type 1} → statement M
 put-owner-spec =

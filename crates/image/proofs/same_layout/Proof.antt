@@ -20,9 +20,11 @@ same-length c = search needs
 
 returns : tie.Need-returns
 returns c =
-    let a = c .before .before .before .before .before .before .before .before .before .before .before .before .before .before .before .args in
+    let c4 = c .before .before .before .before in
+    let c15 = c4 .before .before .before .before .before .before .before .before .before .before .before in
+    let a = c15 .args in
     c .same .ensures
-    ∙ ap (λ (d : List ℕ). same d (a .tag .now)) (c .before .before .before .before .put-layout .ensures ∙ ap (λ (m : ℕ). image m (owned (a .item .now) (a .owner .now) (a .set .now) (a .usage .now) (a .media .now) (a .second .now) (a .carried .now))) (c .before .before .before .before .before .before .before .before .before .before .before .before .before .before .before .pre .0))
+    ∙ ap (λ (d : List ℕ). same d (a .tag .now)) (c4 .put-layout .ensures ∙ ap (λ (m : ℕ). image m (owned (a .item .now) (a .owner .now) (a .set .now) (a .usage .now) (a .media .now) (a .second .now) (a .carried .now))) (c15 .pre .0))
 
 pub same-layout-spec : {M : Type 1} → statement M
 same-layout-spec = tie.close (tie.spec put-layout-requires same-requires same-length returns)

@@ -61,9 +61,13 @@ same-length-2 c = search needs
 
 returns : tie.Need-returns
 returns c =
-    let a = c .before .before .before .before .before .before .before .before .before .before .before .before .before .before .before .before .before .before .before .before .before .before .args in
-    let p = c .before .before .before .before .before .before .before .before .before .before .before .before .before .before .before .before .before .before .before .before .before .before .pre in
-    stored (a .tag .now) (a .locks .now) _ (owned (a .item .now) (a .owner .now) (a .set .now) (a .usage .now) (a .media .now) (a .second .now) (a .carried .now)) (p .0) (p .3) (length (a .draft .now)) (p .1) (p .2 .fit) (c .before .before .before .before .before .before .before .before .before .before .put-layout .ensures) (c .before .before .before .before .before .store .result) _ _ (sym (ap storedGiven (c .before .n .given .1))) (c .before .before .before .before .before .store .ensures .0) (c .before .before .before .before .before .store .ensures .1)
+    let c1 = c .before in
+    let c5 = c1 .before .before .before .before in
+    let c10 = c5 .before .before .before .before .before in
+    let c22 = c10 .before .before .before .before .before .before .before .before .before .before .before .before in
+    let a = c22 .args in
+    let p = c22 .pre in
+    stored (a .tag .now) (a .locks .now) _ (owned (a .item .now) (a .owner .now) (a .set .now) (a .usage .now) (a .media .now) (a .second .now) (a .carried .now)) (p .0) (p .3) (length (a .draft .now)) (p .1) (p .2 .fit) (c10 .put-layout .ensures) (c5 .store .result) _ _ (sym (ap storedGiven (c1 .n .given .1))) (c5 .store .ensures .0) (c5 .store .ensures .1)
 
 same-length-3 : tie.Need-same-length-3
 same-length-3 c = search needs
@@ -73,9 +77,13 @@ same-length-4 c = search needs
 
 returns-2 : tie.Need-returns-2
 returns-2 c =
-    let a = c .before .before .before .before .before .before .before .before .before .before .before .before .before .before .before .before .before .before .before .before .before .before .args in
-    let p = c .before .before .before .before .before .before .before .before .before .before .before .before .before .before .before .before .before .before .before .before .before .before .pre in
-    stored (a .tag .now) (a .locks .now) _ (owned (a .item .now) (a .owner .now) (a .set .now) (a .usage .now) (a .media .now) (a .second .now) (a .carried .now)) (p .0) (p .3) (length (a .draft .now)) (p .1) (p .2 .fit) (c .before .before .before .before .before .before .before .before .before .before .put-layout .ensures) (c .before .before .before .before .before .store .result) _ _ (sym (ap storedGiven (c .before .k .given .1))) (c .before .before .before .before .before .store .ensures .0) (c .before .before .before .before .before .store .ensures .1)
+    let c1 = c .before in
+    let c5 = c1 .before .before .before .before in
+    let c10 = c5 .before .before .before .before .before in
+    let c22 = c10 .before .before .before .before .before .before .before .before .before .before .before .before in
+    let a = c22 .args in
+    let p = c22 .pre in
+    stored (a .tag .now) (a .locks .now) _ (owned (a .item .now) (a .owner .now) (a .set .now) (a .usage .now) (a .media .now) (a .second .now) (a .carried .now)) (p .0) (p .3) (length (a .draft .now)) (p .1) (p .2 .fit) (c10 .put-layout .ensures) (c5 .store .result) _ _ (sym (ap storedGiven (c1 .k .given .1))) (c5 .store .ensures .0) (c5 .store .ensures .1)
 
 pub store-layout-spec : {M : Type 1} → statement M
 store-layout-spec =
