@@ -71,9 +71,13 @@ writing p s t locks =
 
 -- ---- Editing: 1, 3, 4, 5, 6, 7, 13, 2, 9, 10, 11, 12
 
--- t is the writer's own layout of what it holds
+-- t is the writer's own layout of the elements c
+abbrev pub layoutIs : Content → List ℕ → Bool
+layoutIs c t = fits (length t) c && same (image (length t) c) t
+
+-- of what it holds
 unfoldable pub ownLayout : List ℕ → Bool
-ownLayout t = fits (length t) (contentIn t) && same (image (length t) (contentIn t)) t
+ownLayout t = layoutIs (contentIn t) t
 
 unfoldable pub editSteps : ℕ → ℕ → List ℕ → List ℕ → ℕ → List ℕ → List Step
 editSteps p room t locks n s =

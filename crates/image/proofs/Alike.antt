@@ -10,7 +10,7 @@ use Rattle.format.specs.Bytes.{same, joined}
 use Rattle.format.specs.Fields.{isil}
 use Rattle.format.specs.Elements.{Content, numbers, placeIn, place, clash}
 use Rattle.format.specs.Layout.{library, front, basic, laidOut, image, fits}
-use Rattle.format.specs.Calls.{layingSteps}
+use Rattle.format.specs.Calls.{layingSteps, layoutIs}
 use Rattle.format.proofs.Tests.{never}
 use Rattle.format.proofs.Answers.{next-ok, next-no, afterwards-refused}
 use Rattle.format.proofs.Strings.{nil-of}
@@ -18,7 +18,7 @@ use Rattle.format.proofs.Joined.{joined-one, image-joined, fits-joined, clash-j
 use Rattle.image.specs.declared.Laid.{Laid}
 use Rattle.image.specs.declared.Laid.the-variants.{Refused}
 use Rattle.format.specs.Slices.{elements}
-use Rattle.image.specs.Laying.{laying, Lays, layoutIs, owned}
+use Rattle.image.specs.Laying.{laying, Lays, owned}
 
 -- c and d clash alike, and have the same layout on n bytes
 pub record Alike (n : ℕ) (c d : Content) : Type 0 where

@@ -34,10 +34,6 @@ pub record Lays (t locks : List ℕ) (c : Content) (r : Laid) (tag : List ℕ) :
   pub answered : laidGiven r ≡ laying locks t c
   pub left : tag ≡ afterwards (laying locks t c) (image (length t) c) t
 
--- the tag t is just the layout of elements c
-abbrev pub layoutIs : Content → List ℕ → Bool
-layoutIs c t = fits (length t) c && same (image (length t) c) t
-
 -- ---- what the layout takes
 
 -- elements whose owner is found; the layout asks no more of it than its bytes

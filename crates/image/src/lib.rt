@@ -11,8 +11,9 @@ ghost use Rattle.format.specs.Fields.{packed, basicOwner, ownerField};
 ghost use Rattle.format.specs.Chain.{libraryBytes, blockOne};
 ghost use Rattle.format.specs.Elements.{clash};
 ghost use Rattle.format.specs.Layout.{ownerWidth, image, fits};
+ghost use Rattle.format.specs.Calls.{layoutIs};
 ghost use Rattle.format.specs.Slices.{elements, Valued};
-ghost use Rattle.image.specs.Laying.{Lays, layoutIs, owned, frontOf, basicOf, libraryOf, ownerBehind, usageBehind, fieldsOf, OwnerOrNone, Behind, Placeable, IsilFits, FieldsFit, BlockFits, LibraryFits, Buildable, Blank, laidAt};
+ghost use Rattle.image.specs.Laying.{Lays, owned, frontOf, basicOf, libraryOf, ownerBehind, usageBehind, fieldsOf, OwnerOrNone, Behind, Placeable, IsilFits, FieldsFit, BlockFits, LibraryFits, Buildable, Blank, laidAt};
 
 // Laying elements down on a tag: the count of pages changed, or the number of the refusal.
 pub enum Laid {

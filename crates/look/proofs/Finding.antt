@@ -22,7 +22,8 @@ use Rattle.fields.proofs.Places.{TextItem, MarkedItem, NoOwner, MarkedOwner, Al
 use Rattle.look.specs.declared.ItemPlace.{ItemPlace}
 use Rattle.look.specs.declared.OwnerPlace.{OwnerPlace}
 use Rattle.look.specs.declared.LibraryPlace.{LibraryPlace}
-use Rattle.look.specs.Looking.{Sized, partFrom, isilAt, IsilFits, ItemStands, OwnerHeld, OwnerStands, LibraryStands, FieldsStand}
+use Rattle.look.specs.View.{isilAt}
+use Rattle.look.specs.Looking.{Sized, partFrom, IsilFits, ItemStands, OwnerHeld, OwnerStands, LibraryStands, FieldsStand}
 use Rattle.look.proofs.Holding.{part-part, held-none, held-within, held-length}
 
 -- ---- the item field

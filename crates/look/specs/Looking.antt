@@ -15,7 +15,7 @@ use Rattle.format.specs.Chain.{libraryBlock, otherBlocks, goodLibrary}
 use Rattle.format.specs.Elements.{el}
 use Rattle.format.specs.Reading.{itemIn, ownerIn, blocksIn, libraryOn, goodFields, contentIn}
 use Rattle.format.specs.Slices.{Held}
-use Rattle.look.specs.View.{judged}
+use Rattle.look.specs.View.{isilAt, judged}
 use Rattle.look.specs.declared.Look.{Look}
 use Rattle.look.specs.declared.Look.the-variants as look
 use Rattle.look.specs.declared.Basic.{Basic}
@@ -66,13 +66,7 @@ basicNumber (basic.Refused k) = k
 unfoldable pub partFrom : ℕ → ℕ → Part
 partFrom at len = record { at = if eqb len 0 then 0 else at; len = len }
 
--- the ISIL that stands so: the part, behind that many bytes from byte 21 and a hyphen where there is a prefix
-abbrev pub isilAt : List ℕ → ℕ → Part → List ℕ
-isilAt t prefix isil =
-    if eqb prefix 0 then part (isil .at) (isil .len) t
-    else part 21 prefix t ++ (hyphen ∷ part (isil .at) (isil .len) t)
-
--- it lies inside the tag, and is no longer than an ISIL can be
+-- an ISIL lies inside the tag, and is no longer than one can be
 pub record IsilFits (t : List ℕ) (prefix : ℕ) (isil : Part) : Type 0 where
   pub basic : 32 ≤ length t
   pub inside : isil .at + isil .len ≤ length t

@@ -5,6 +5,7 @@ use mathlib.Core.Bool.{true}
 use mathlib.Core.List.{List, [], _∷_, _++_}
 use lib.ListN.{length}
 use lib.Dec.{eqb}
+use Rattle.format.specs.declared.Part.{Part}
 use Rattle.format.specs.Answers.{got, refused, plain, Step, inOrder, need}
 use Rattle.format.specs.Bytes.{if_then_else_, part, joined}
 use Rattle.format.specs.Pages.{pageSize, goodSize}
@@ -16,11 +17,15 @@ use Rattle.look.specs.declared.View.{View}
 use Rattle.look.specs.declared.Look.{Look}
 use Rattle.look.specs.declared.Look.the-variants.{Seen, Refused}
 
+-- the ISIL that stands so: the part, behind that many bytes from byte 21 and a hyphen where there is a prefix
+abbrev pub isilAt : List ℕ → ℕ → Part → List ℕ
+isilAt t prefix isil =
+    if eqb prefix 0 then part (isil .at) (isil .len) t
+    else part 21 prefix t ++ (hyphen ∷ part (isil .at) (isil .len) t)
+
 -- the ISIL that a view tells of
 abbrev pub isilSeen : List ℕ → View → List ℕ
-isilSeen t v =
-    if eqb (v .prefix) 0 then part (v .isil .at) (v .isil .len) t
-    else part 21 (v .prefix) t ++ (hyphen ∷ part (v .isil .at) (v .isil .len) t)
+isilSeen t v = isilAt t (v .prefix) (v .isil)
 
 -- v tells what the tag t holds
 pub record Viewed (t : List ℕ) (v : View) : Type 0 where

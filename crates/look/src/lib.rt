@@ -17,8 +17,8 @@ ghost use Rattle.format.specs.Elements.{el};
 ghost use Rattle.format.specs.Slices.{Held};
 ghost use Rattle.format.specs.Reading.{blocksIn, agree, ownerOn, contentIn};
 ghost use Rattle.fields.specs.Forms.{ownerForm};
-ghost use Rattle.look.specs.View.{Viewed, Looked};
-ghost use Rattle.look.specs.Looking.{Sized, lookNumber, BasicSays, basicNumber, partFrom, isilAt, IsilFits, ItemSays, OwnerHeld, OwnerStands, OwnerSays, LibraryStands, LibrarySays, FieldsStand, FieldsSay, Counted, laidInFront};
+ghost use Rattle.look.specs.View.{isilAt, Viewed, Looked};
+ghost use Rattle.look.specs.Looking.{Sized, lookNumber, BasicSays, basicNumber, partFrom, IsilFits, ItemSays, OwnerHeld, OwnerStands, OwnerSays, LibraryStands, LibrarySays, FieldsStand, FieldsSay, Counted, laidInFront};
 
 // What a readable tag holds and where: parts of the tag that are elements in sheet form, none where a part has no bytes. The owner's
 // ISIL, where `prefix` is not 0, is that many bytes from byte 21, a hyphen, and the part `isil`; else the part alone.

@@ -14,7 +14,7 @@ use Rattle.format.specs.Elements.{Content, numbers, placeIn, place, el, put, kn
 use Rattle.format.specs.Slices.{elements, Valued}
 use Rattle.format.specs.Layout.{image, fits}
 use Rattle.format.specs.Reading.{contentIn, tagSteps}
-use Rattle.format.specs.Calls.{layingSteps, ownLayout, editSteps, Edited, editing}
+use Rattle.format.specs.Calls.{layingSteps, layoutIs, ownLayout, editSteps, Edited, editing}
 use Rattle.format.specs.Numbers.{Edits}
 use Rattle.format.specs.declared.EditAnswer.the-variants as edit
 use Rattle.format.proofs.Tests.{and-l, and-r, eqb-sym}
@@ -130,7 +130,7 @@ module _ (t locks item isil set usage media second other carried : List ℕ) (h 
   pub rowed-clear : clash rowed ≡ false
   rowed-clear = ap clash rowed-is ∙ clash-joined (c .slots) (carried ∷ []) (c .carried) one-row ∙ seen-clear t (h .seen) (h .all-bytes)
 
-  own-row : fits (length t) rowed && same (image (length t) rowed) t ≡ ownLayout t
+  own-row : layoutIs rowed t ≡ ownLayout t
   unfolding ownLayout
   own-row =
       ap₂ (λ (x : Bool) (i : List ℕ). x && same i t) (ap (fits (length t)) rowed-is ∙ fits-joined (c .slots) (carried ∷ []) (c .carried) one-row (length t))
@@ -139,7 +139,7 @@ module _ (t locks item isil set usage media second other carried : List ℕ) (h 
   module _ (n : ℕ) (s buffer : List ℕ) where
     -- 13, 2 and 9, as the code tests them
     abbrev pub late : List Step
-    late = need 13 (fits (length t) rowed && same (image (length t) rowed) t) ∷ need 2 (leb 255 (length buffer)) ∷ need 9 (known n && value n s) ∷ []
+    late = need 13 (layoutIs rowed t) ∷ need 2 (leb 255 (length buffer)) ∷ need 9 (known n && value n s) ∷ []
 
     abbrev given : Edited
     given = record { pages = changed pageSize t (image (length t) (put c n s)); old = length (el c n) }

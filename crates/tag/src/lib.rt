@@ -14,11 +14,10 @@ ghost use Prim.Native.Nat.{_+_, _≤_};
 ghost use lib.ListN.{length};
 ghost use lib.Dec.{leb};
 ghost use Rattle.format.specs.Answers.{got, need, inOrder};
-ghost use Rattle.format.specs.Bytes.{same};
 ghost use Rattle.format.specs.Pages.{pageSize, goodSize, lockMap};
 ghost use Rattle.format.specs.Elements.{clash, known, value, el};
 ghost use Rattle.format.specs.Slices.{elements, Valued};
-ghost use Rattle.format.specs.Layout.{image, fits};
+ghost use Rattle.format.specs.Calls.{layoutIs};
 ghost use Rattle.format.specs.Numbers.{Reads, Writes, Edits};
 ghost use Rattle.look.specs.View.{Viewed, judged};
 ghost use Rattle.tag.specs.Stages.{stageGiven, stageNumber, scanNumber, laidNumber};
@@ -258,8 +257,7 @@ fn edit_stage(
     requires { ⌜ (goodSize pageSize (length (now tag)) ≡ true) × Valued (now item) (now isil) (now set) (now usage) (now media) (now second) (now other)
         × (clash (elements (now item) (now isil) (now set) (now usage) (now media) (now second) (now other) (now carried ∷ [])) ≡ false) ⌝ }
     ensures { λ r. ⌜ stageGiven r ≡ inOrder (
-        need 13 (fits (length (now (tag .entry))) (elements (now (item .entry)) (now (isil .entry)) (now (set .entry)) (now (usage .entry)) (now (media .entry)) (now (second .entry)) (now (other .entry)) (now (carried .entry) ∷ []))
-        && same (image (length (now (tag .entry))) (elements (now (item .entry)) (now (isil .entry)) (now (set .entry)) (now (usage .entry)) (now (media .entry)) (now (second .entry)) (now (other .entry)) (now (carried .entry) ∷ []))) (now (tag .entry)))
+        need 13 (layoutIs (elements (now (item .entry)) (now (isil .entry)) (now (set .entry)) (now (usage .entry)) (now (media .entry)) (now (second .entry)) (now (other .entry)) (now (carried .entry) ∷ [])) (now (tag .entry)))
         ∷ need 2 (leb 255 room)
         ∷ need 9 (known number && value number (now (bytes .entry)))
         ∷ []) tt ⌝ }

@@ -10,7 +10,7 @@ use borrow.Author.Tests.{eq-eqb, ne-eqb}
 use Rattle.format.specs.declared.Part.{Part}
 use Rattle.format.specs.Bytes.{filled}
 use Rattle.format.specs.Fields.{hyphen}
-use Rattle.look.specs.Looking.{isilAt}
+use Rattle.look.specs.View.{isilAt}
 use Rattle.look.proofs.isil_of.Statement.{statement}
 use Rattle.look.proofs.isil_of.Tie as tie
 
