@@ -1,11 +1,11 @@
 -- Laws for callers: what a survey tells, and what a loop over the carried blocks finds at each place.
 use mathlib.Core.Path.{_≡_, refl, sym, ap, ap₂, _∙_}
-use Prim.Native.Nat.{ℕ, zero, suc, _+_, _-_, _*_, _≤_}
+use Prim.Native.Nat.{ℕ, _+_, _-_, _*_, _≤_}
 use native.Mathlib.Omega.{arith}
-use mathlib.Core.Bool.{Bool, true, false, not, _||_}
-use mathlib.Core.List.{List, [], _∷_, _++_}
-use lib.Dec.{eqb, leb}
-use lib.ListN.{length, take, drop, getD, length-append, length-take, length-drop}
+use mathlib.Core.Bool.{Bool, true, false}
+use mathlib.Core.List.{List, [], _∷_}
+use lib.Dec.{leb}
+use lib.ListN.{length, drop, getD, length-append, length-take, length-drop}
 use borrow.Author.Tests.{leb-true, leb-false}
 use Rattle.format.specs.Answers.{Answer, got, refused, plain}
 use Rattle.format.specs.Bytes.{if_then_else_, all, bytes, part, joined}

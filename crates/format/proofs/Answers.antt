@@ -1,7 +1,6 @@
 -- Laws of answers and steps. The last two say for every call at once when it refuses and when it does its work.
-use mathlib.Core.Path.{_≡_, refl, sym, ap, ap₂, _∙_}
-use mathlib.Core.Logic.{_⊎_, inl, inr}
-use Prim.Native.Nat.{ℕ, zero, suc}
+use mathlib.Core.Path.{_≡_, refl, ap}
+use Prim.Native.Nat.{ℕ}
 use mathlib.Core.Bool.{Bool, true, false}
 use mathlib.Core.List.{List, [], _∷_, _++_}
 use Rattle.format.specs.Answers.{Answer, Refusal, plain, got, refused, Step, need, inOrder, Passed, none, more, FirstRefusal, here, later, afterwards, andThen, orElse, passed}

@@ -1,19 +1,19 @@
 -- A chain of well-formed blocks is walked as it was laid, and block 1's fields come back.
-use mathlib.Core.Path.{_≡_, refl, sym, ap, ap₂, _∙_}
-use Prim.Native.Nat.{ℕ, zero, suc, _+_, _-_, _*_, _/_, _%_, _≤_, _<_}
+use mathlib.Core.Path.{_≡_, refl, sym, ap, _∙_}
+use Prim.Native.Nat.{ℕ, zero, suc, _+_, _-_, _≤_, _<_}
 use native.Mathlib.Nat.{le-refl}
 use native.Mathlib.Omega.{arith}
 use mathlib.Core.Bool.{Bool, true, false, not, _&&_, _||_}
-use mathlib.Core.List.{List, [], _∷_, _++_, append-assoc, append-nil}
+use mathlib.Core.List.{List, [], _∷_, _++_, append-assoc}
 use lib.Dec.{eqb, leb}
-use lib.ListN.{length, take, drop, getD, replicate, length-append, length-drop, List·getD-append}
+use lib.ListN.{length, drop, getD, replicate, length-append, List·getD-append}
 use lib.Seq.{take-at, drop-at}
 use borrow.Author.Tests.{eqb-true, eq-eqb, ne-eqb, leb-true, le-leb}
-use Rattle.format.specs.Answers.{Answer, got, refused, need, andThen}
-use Rattle.format.specs.Bytes.{if_then_else_, isEmpty, all, le16, word, xorAll, strip, upTo, past, joined, trim}
+use Rattle.format.specs.Answers.{got, andThen}
+use Rattle.format.specs.Bytes.{if_then_else_, isEmpty, all, le16, word, xorAll, strip, past, joined, trim}
 use Rattle.format.specs.Fields.{text, isOwner}
 use Rattle.format.specs.Chain.{idOf, wellFormed, isLibrary, carriable, walk, chain, libraryBlock, otherBlocks, Library, payload, lastField, libraryIn, goodLibrary, libraryBytes, sealed, blockOne}
-use Rattle.format.proofs.Tests.{never, and-l, and-r, and-i, not-t}
+use Rattle.format.proofs.Tests.{and-l, and-r, and-i, not-t}
 use Rattle.format.proofs.Answers.{need-ok, then-ok}
 use Rattle.format.proofs.Strings.{word-le16, solid, up-to-before, past-before, strip-strip, head-strip, drop-strip, up-to-strip, past-strip}
 use Rattle.format.proofs.Xor.{xor-closed}

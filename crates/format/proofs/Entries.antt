@@ -1,22 +1,22 @@
 -- The entries of a sheet with good values, put into their slots and taken out again, are the same entries.
 use mathlib.Core.Path.{_≡_, refl, sym, ap, ap₂, _∙_}
 use mathlib.Core.Logic.{_⊎_, inl, inr}
-use Prim.Native.Nat.{ℕ, zero, suc, _+_, _≤_, _<_}
+use Prim.Native.Nat.{ℕ, _+_, _≤_, _<_}
 use native.Mathlib.Omega.{arith}
 use native.Mathlib.Nat.{le-refl, le-of-eq}
 use mathlib.Core.Bool.{Bool, true, false, not, _&&_, _||_}
 use mathlib.Core.List.{List, [], _∷_, _++_, map}
 use lib.Dec.{eqb, leb, ltb}
-use lib.ListN.{length, getD}
-use borrow.Author.Tests.{eqb-true, eq-eqb, ne-eqb, eqb-false, ltb-true, lt-ltb, leb-true}
-use Rattle.format.specs.Bytes.{if_then_else_, isEmpty, all, between, upTo, past}
-use Rattle.format.specs.Fields.{text, isilOf, isil, alternative}
+use lib.ListN.{length}
+use borrow.Author.Tests.{eqb-true, eq-eqb, ne-eqb, ltb-true, lt-ltb}
+use Rattle.format.specs.Bytes.{if_then_else_, isEmpty, all, upTo, past}
+use Rattle.format.specs.Fields.{isilOf, isil, alternative}
 use Rattle.format.specs.Chain.{wellFormed, carriable}
 use Rattle.format.specs.Elements.{Content, numbers, required, setInfo, shape, form, value, valuesAt, clash, sound}
 use Rattle.format.specs.Sheet.{Entry, risingFrom, rising, find, carriedIn, contentOf, formed, present, goodValues, entriesAt, carriedEntries, entries}
 use Rattle.format.proofs.Tests.{never, and-l, and-r, and-i, not-t, or-inv, or-l, or-r, all-mono}
 use Rattle.format.proofs.Values.{required-shape}
-use Rattle.format.proofs.Slots.{values-length, values-at, Sound, sound-parts, parts-sound}
+use Rattle.format.proofs.Slots.{values-length, sound-parts, parts-sound}
 
 -- ---- what a form says of its number and of its bytes
 

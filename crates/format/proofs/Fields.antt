@@ -1,17 +1,17 @@
 -- The item field and the owner field of the basic block come back: what was written there is what is read there.
-use mathlib.Core.Path.{_≡_, refl, sym, ap, ap₂, _∙_}
+use mathlib.Core.Path.{_≡_, refl, sym, ap, _∙_}
 use mathlib.Core.Logic.{_⊎_, inl, inr}
-use Prim.Native.Nat.{ℕ, zero, suc, _+_, _-_, _≤_, _<_}
+use Prim.Native.Nat.{ℕ, _+_, _-_, _≤_, _<_}
 use native.Mathlib.Omega.{arith}
 use mathlib.Core.Bool.{Bool, true, false, not, _&&_, _||_}
 use mathlib.Core.List.{List, [], _∷_, _++_}
 use lib.Dec.{eqb, leb}
-use lib.ListN.{length, take, drop, getD, replicate}
-use borrow.Author.Tests.{eqb-true, eq-eqb, ne-eqb, leb-true, le-leb, lt-leb, leb-false}
-use Rattle.format.specs.Bytes.{if_then_else_, isEmpty, all, same, between, padWith, pad, trim, strip, upTo, past}
+use lib.ListN.{length, drop, getD}
+use borrow.Author.Tests.{ne-eqb, leb-true, le-leb, lt-leb, leb-false}
+use Rattle.format.specs.Bytes.{if_then_else_, isEmpty, all, same, padWith, trim, strip, upTo, past}
 use Rattle.format.specs.Fields.{textByte, text, capital, unitByte, isilOf, isil, hyphen, blank, alternate, alternative, isOwner, marker, marked, goodItem, prefixIn, ownerSaid, goodOwner, long, itemField, packed, basicOwner, ownerField}
-use Rattle.format.proofs.Tests.{never, and-l, and-r, and-i, and-iff, not-t, or-inv, or-l, or-r, if-inv, all-mono, all-append}
-use Rattle.format.proofs.Strings.{other, without, solid, solid-strip, strip-pad, strip-cons, parted, up-to-without, nil-of}
+use Rattle.format.proofs.Tests.{never, and-l, and-r, and-i, and-iff, not-t, or-l, or-r, if-inv, all-mono, all-append}
+use Rattle.format.proofs.Strings.{other, without, solid, solid-strip, strip-pad, strip-cons, parted}
 
 -- ---- bytes
 

@@ -1,15 +1,15 @@
 -- Demand 3: any edits from a tag in the writer's own layout, and the way back.
-use mathlib.Core.Path.{_≡_, refl, sym, ap, ap₂, _∙_}
-use Prim.Native.Nat.{ℕ, _≤_}
+use mathlib.Core.Path.{_≡_, refl, sym, ap, _∙_}
+use Prim.Native.Nat.{ℕ}
 use mathlib.Core.List.{List, [], _∷_}
 use lib.ListN.{length, take}
-use Rattle.format.specs.Answers.{Answer, Refusal, got, refused, afterwards}
+use Rattle.format.specs.Answers.{Answer, Refusal, got, refused}
 use Rattle.format.specs.Pages.{goodSize, lockMap, Kept}
 use Rattle.format.specs.Elements.{Content, el, put}
 use Rattle.format.specs.Layout.{image}
 use Rattle.format.specs.Reading.{contentIn}
-use Rattle.format.specs.Calls.{Edited, EditOutcome, editing}
-use Rattle.format.specs.History.{Own, Edit, Undo, State, begin, call, noted, edited, run, Back, Undone}
+use Rattle.format.specs.Calls.{Edited, EditOutcome}
+use Rattle.format.specs.History.{Own, Edit, State, begin, call, noted, edited, run, Back, Undone}
 use Rattle.format.proofs.Tests.{and-l}
 use Rattle.format.proofs.Refusals.{edit-unchanged}
 use Rattle.format.proofs.Laying.{laid-kept, laid-length, own-read}

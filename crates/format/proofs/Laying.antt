@@ -1,13 +1,12 @@
 -- The last refusals of writing and editing, and what holds of a tag once they are passed.
-use mathlib.Core.Path.{_≡_, refl, sym, ap, ap₂, _∙_}
+use mathlib.Core.Path.{_≡_, ap, _∙_}
 use Prim.Native.Nat.{ℕ, _/_, _≤_}
-use mathlib.Core.Bool.{Bool, true, false, not, _&&_}
-use mathlib.Core.List.{List, [], _∷_, _++_}
-use lib.Dec.{eqb}
+use mathlib.Core.Bool.{Bool, true, false, not}
+use mathlib.Core.List.{List}
 use lib.ListN.{length}
 use borrow.Author.Tests.{eqb-true, eq-eqb}
-use Rattle.format.specs.Answers.{Answer, got, Step, need, inOrder}
-use Rattle.format.specs.Bytes.{all, same}
+use Rattle.format.specs.Answers.{got, inOrder}
+use Rattle.format.specs.Bytes.{same}
 use Rattle.format.specs.Pages.{goodSize, lockMap, changed, lockedChanged, openPages, Kept}
 use Rattle.format.specs.Elements.{Content, clash, sound}
 use Rattle.format.specs.Layout.{image, fits}
@@ -16,7 +15,6 @@ use Rattle.format.specs.Calls.{layingSteps, ownLayout}
 use Rattle.format.specs.History.{Own}
 use Rattle.format.proofs.Tests.{and-l, and-r, and-i, not-t, same-refl, same-eq}
 use Rattle.format.proofs.Answers.{next-ok, next-inv, none-ok, none-inv}
-use Rattle.format.proofs.Slots.{sound-parts}
 use Rattle.format.proofs.Layouts.{image-length, read-back}
 use Rattle.format.proofs.Paging.{locked-kept, changed-open}
 

@@ -1,30 +1,30 @@
 -- What the writer lays down is read back.
 use mathlib.Core.Path.{_≡_, refl, sym, ap, ap₂, _∙_}
 use mathlib.Core.Logic.{_⊎_, inl, inr}
-use Prim.Native.Nat.{ℕ, zero, suc, _+_, _-_, _*_, _/_, _%_, _≤_, _<_, min}
+use Prim.Native.Nat.{ℕ, _+_, _-_, _%_, _≤_}
 use native.Mathlib.Omega.{arith}
-use mathlib.Core.Bool.{Bool, true, false, not, _&&_, _||_, Bool·beq}
+use mathlib.Core.Bool.{Bool, true, false, _&&_, _||_}
 use mathlib.Core.List.{List, [], _∷_, _++_, append-nil, append-assoc}
 use lib.Dec.{eqb, leb}
 use lib.ListN.{drop-of-length-le, length, take, drop, getD, replicate, length-append, length-replicate}
 use lib.Seq.{take-at, drop-at, take-all, drop-append-add}
 use borrow.Author.Tests.{eqb-true, eq-eqb, leb-true, le-leb, leb-false}
-use Rattle.format.specs.Answers.{Answer, got, refused, orElse}
-use Rattle.format.specs.Bytes.{if_then_else_, isEmpty, all, same, between, part, padWith, pad, strip, upTo, le16, joined}
+use Rattle.format.specs.Answers.{got}
+use Rattle.format.specs.Bytes.{if_then_else_, isEmpty, same, between, part, padWith, pad, strip, upTo, le16, joined}
 use Rattle.format.specs.Pages.{goodSize}
 use Rattle.format.specs.Crc.{crc, covered}
-use Rattle.format.specs.Fields.{text, isOwner, marker, hyphen, marked, long, alternate, ownerSaid, goodItem, goodOwner, itemField, packed, basicOwner, ownerField}
-use Rattle.format.specs.Chain.{Library, chain, libraryBlock, otherBlocks, libraryIn, goodLibrary, blockOne}
-use Rattle.format.specs.Elements.{Content, el, setBytes, shape, sound}
+use Rattle.format.specs.Fields.{text, marker, hyphen, long, alternate, ownerSaid, goodItem, goodOwner, itemField, packed, basicOwner, ownerField}
+use Rattle.format.specs.Chain.{chain, libraryBlock, otherBlocks, libraryIn, goodLibrary, blockOne}
+use Rattle.format.specs.Elements.{Content, el, shape, sound}
 use Rattle.format.specs.Layout.{ownerWidth, ownerOf, usageOf, library, firstByte, front, basic, laidOut, image, fits}
-use Rattle.format.specs.Reading.{mainUsage, itemIn, ownerIn, walked, blocksIn, libraryOn, goodFields, agree, ownerOn, contentIn, Readable}
+use Rattle.format.specs.Reading.{walked, blocksIn, libraryOn, goodFields, agree, ownerOn, contentIn, Readable}
 use Rattle.format.proofs.Tests.{and-l, and-r, and-i, or-inv, same-refl}
 use Rattle.format.proofs.Answers.{or-else-got}
 use Rattle.format.proofs.Strings.{nil-of, le16-length, length-pad}
-use Rattle.format.proofs.Blocks.{Laid, chain-laid, library-back, library-good}
+use Rattle.format.proofs.Blocks.{chain-laid, library-back, library-good}
 use Rattle.format.proofs.Fields.{text-solid, item-back, spoken, owner-back}
 use Rattle.format.proofs.Slots.{Facts, sound-facts}
-use Rattle.format.proofs.Values.{value-text, value-isil, value-alternative, value-usage, value-media, SetInfo, value-set, item-content, item-agrees, owner-content, owner-either, Placed, owner-placed, usage-content, usage-agrees}
+use Rattle.format.proofs.Values.{value-text, value-isil, value-alternative, value-usage, value-media, value-set, item-content, item-agrees, owner-content, owner-either, Placed, owner-placed, usage-content, usage-agrees}
 
 -- ---- a tag that is laid down part by part, cut as the reader cuts it
 

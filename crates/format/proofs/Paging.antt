@@ -1,15 +1,15 @@
 -- Pages that differ: the order of the two tags does not matter, and what no step changes no run changes.
-use mathlib.Core.Path.{_≡_, refl, sym, ap, ap₂, _∙_}
-use Prim.Native.Nat.{ℕ, zero, suc, _+_, _*_, _/_, _≤_, _<_}
+use mathlib.Core.Path.{_≡_, refl, ap, ap₂, _∙_}
+use Prim.Native.Nat.{ℕ, zero, suc, _*_, _/_, _≤_, _<_}
 use native.Mathlib.Omega.{arith}
 use native.Mathlib.Nat.{not-suc-le-zero}
-use mathlib.Core.Bool.{Bool, true, false, not, _&&_, _||_}
-use mathlib.Core.List.{List, [], _∷_}
-use lib.Dec.{eqb, ltb, leb}
-use lib.ListN.{length, getD}
-use borrow.Author.Tests.{eqb-true, ltb-true, ltb-false, eq-eqb}
-use Rattle.format.specs.Bytes.{if_then_else_, same, part, all}
-use Rattle.format.specs.Pages.{locked, differs, lockedDiffers, count, changed, lockedChanged, openPages, lockMap, Kept}
+use mathlib.Core.Bool.{Bool, true, false, not, _&&_}
+use mathlib.Core.List.{List}
+use lib.Dec.{ltb}
+use lib.ListN.{length}
+use borrow.Author.Tests.{ltb-true, ltb-false}
+use Rattle.format.specs.Bytes.{if_then_else_, same, part}
+use Rattle.format.specs.Pages.{locked, differs, lockedDiffers, count, changed, lockedChanged, openPages, Kept}
 use Rattle.format.proofs.Tests.{never, and-no, not-f, same-sym, same-refl, same-eq}
 
 pub count-ext : (f g : ℕ → Bool) → ((i : ℕ) → f i ≡ g i) → (n : ℕ) → count f n ≡ count g n

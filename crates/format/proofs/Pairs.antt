@@ -1,7 +1,7 @@
 -- Two tables of worked examples, each under a single statement that is computed: the pairs that document 01 marks P, and the whole case
 -- with the published examples B.1 and B.2 of the standard, each read and written.
-use Prim.Native.Nat.{ℕ, zero, suc, _+_, _-_, _%_, _/_}
-use mathlib.Core.Bool.{Bool, true, false, not, _&&_, _||_}
+use Prim.Native.Nat.{ℕ, _+_, _-_, _/_}
+use mathlib.Core.Bool.{Bool, false, not, _&&_}
 use mathlib.Core.List.{List, [], _∷_, _++_}
 use lib.ListN.{length, replicate, take}
 use lib.Dec.{T, eqb}

@@ -3,17 +3,17 @@
 use mathlib.Core.Path.{_≡_, refl, sym, ap, ap₂, _∙_}
 use mathlib.Core.Logic.{_⊎_}
 use Prim.Native.Nat.{ℕ, _+_, _≤_, _<_}
-use mathlib.Core.Bool.{Bool, true, false, _&&_}
-use mathlib.Core.List.{List, [], _∷_}
-use lib.ListN.{length, take}
-use Rattle.format.specs.Answers.{Answer, Refusal, plain, got, refused, Step, inOrder, Passed, FirstRefusal}
+use mathlib.Core.Bool.{true, false, _&&_}
+use mathlib.Core.List.{List}
+use lib.ListN.{length}
+use Rattle.format.specs.Answers.{Refusal, plain, got, refused, Step, inOrder, Passed, FirstRefusal}
 use Rattle.format.specs.Bytes.{bytes, filled, joined}
 use Rattle.format.specs.Pages.{goodSize, lockMap, changed, lockedChanged, openPages, Kept}
-use Rattle.format.specs.Elements.{Content, partsOf, ordinalOf, required, known, el, put, sound}
-use Rattle.format.specs.Sheet.{Entry, sheetOf, fitting, entriesIn, rightSheet, find, contentOf, goodValues, entries}
+use Rattle.format.specs.Elements.{Content, partsOf, ordinalOf, known, el, put, sound}
+use Rattle.format.specs.Sheet.{sheetOf, fitting, entriesIn, rightSheet, find, contentOf, goodValues, entries}
 use Rattle.format.specs.Layout.{ownerWidth, laidOut, image, fits}
-use Rattle.format.specs.Reading.{blocksIn, contentIn, tagSteps, Readable}
-use Rattle.format.specs.Calls.{sheetIn, readSteps, reading, sheetContent, writeSteps, writing, ownLayout, editSteps, Edited, editing}
+use Rattle.format.specs.Reading.{blocksIn, contentIn, Readable}
+use Rattle.format.specs.Calls.{readSteps, reading, sheetContent, writeSteps, writing, ownLayout, editSteps, Edited, editing}
 use Rattle.format.specs.Numbers.{readGiven, writeGiven, editGiven, readNumbers, writeNumbers, editNumbers, Each, oneOf, numberOf, Reads, Writes, Edits, ReadsC, WritesC, EditsC}
 use Rattle.format.specs.History.{Own, Edit, State, begin, run, Undone}
 use Rattle.format.specs.declared.ReadAnswer.{ReadAnswer}
@@ -25,18 +25,17 @@ use Rattle.format.specs.declared.EditAnswer.the-variants as edit
 use Rattle.format.proofs.Tests.{never, and-l, and-r}
 use Rattle.format.proofs.Answers.{got-inj, refuses, refused-first, works, worked, next-ok, next-no}
 use Rattle.format.proofs.Refusals.{read-order, write-order, edit-order, listed, zero-done, read-unchanged, write-unchanged, edit-unchanged}
-use Rattle.format.proofs.Readable.{on-readable}
 use Rattle.format.proofs.Slots.{put-same}
-use Rattle.format.proofs.Sheets.{Right, sheet-right, right-sheet}
-use Rattle.format.proofs.Entries.{entries-content, values-parts, Entered, content-entries, bad-set}
+use Rattle.format.proofs.Sheets.{sheet-right, right-sheet}
+use Rattle.format.proofs.Entries.{entries-content, values-parts, content-entries, bad-set}
 use Rattle.format.proofs.Values.{set-held}
 use Rattle.format.proofs.Sound.{read-sound}
 use Rattle.format.proofs.Shorter.{read-fits, laid-shorter}
 use Rattle.format.proofs.Offsets.{read-fitting}
 use Rattle.format.proofs.Laying.{laid-open, own-read, layout-own}
-use Rattle.format.proofs.Writes.{Written, write-accepted, write-tag, written-own, written-read, write-own}
-use Rattle.format.proofs.Edits.{Accepted, edit-steps, edit-accepted, edit-tag, same-accepted, same-given}
-use Rattle.format.proofs.Histories.{Good, begun, history}
+use Rattle.format.proofs.Writes.{write-accepted, write-tag, written-own, written-read, write-own}
+use Rattle.format.proofs.Edits.{edit-steps, edit-accepted, edit-tag, same-accepted, same-given}
+use Rattle.format.proofs.Histories.{begun, history}
 
 -- ==== Demand 1: one answer and one content for each buffer, on every input; a refusal changes nothing and gives only its number
 

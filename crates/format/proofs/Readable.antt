@@ -1,13 +1,8 @@
 -- A tag that passes the tests 3 to 7.
-use mathlib.Core.Path.{_≡_, refl, sym, ap, _∙_}
-use Prim.Native.Nat.{ℕ, _%_}
-use mathlib.Core.Bool.{Bool, true}
-use mathlib.Core.List.{List, [], _∷_, _++_}
-use lib.ListN.{getD}
-use lib.Dec.{eqb}
-use Rattle.format.specs.Answers.{Answer, got, refused, Step, need, inOrder, passed}
-use Rattle.format.specs.Bytes.{same, le16, part}
-use Rattle.format.specs.Crc.{crc, covered}
+use mathlib.Core.Path.{_≡_, _∙_}
+use Prim.Native.Nat.{ℕ}
+use mathlib.Core.List.{List, [], _++_}
+use Rattle.format.specs.Answers.{got, Step, inOrder}
 use Rattle.format.specs.Reading.{walked, blocksIn, tagSteps, Readable}
 use Rattle.format.proofs.Answers.{first-ok, first-inv, next-ok, next-inv, passed-ok, passed-inv}
 

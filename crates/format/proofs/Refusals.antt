@@ -1,16 +1,15 @@
 -- Each call refuses with the numbers of its list, in that order, and then leaves every buffer as it was.
-use mathlib.Core.Path.{_≡_, refl, sym, ap, _∙_}
+use mathlib.Core.Path.{_≡_, refl, sym, ap}
 use mathlib.Core.Logic.{_⊎_, inl, inr}
 use Prim.Native.Nat.{ℕ, zero, suc}
 use mathlib.Core.Bool.{Bool, true, false, not, _&&_, _||_}
-use mathlib.Core.List.{List, [], _∷_, _++_}
+use mathlib.Core.List.{List, [], _∷_}
 use lib.Dec.{eqb}
 use lib.ListN.{length, take, drop, getD}
 use borrow.Author.Tests.{eq-eqb}
-use Rattle.format.specs.Answers.{Answer, Refusal, plain, got, refused, Step, need, inOrder, afterwards, andThen, passed}
+use Rattle.format.specs.Answers.{Answer, Refusal, plain, got, refused, Step, need, inOrder, andThen, passed}
 use Rattle.format.specs.Bytes.{if_then_else_}
 use Rattle.format.specs.Chain.{wellFormed, isLibrary, walk, chain}
-use Rattle.format.specs.Elements.{Content}
 use Rattle.format.specs.Reading.{walked, tagSteps}
 use Rattle.format.specs.Calls.{readSteps, layingSteps, writeSteps, editSteps, reading, writing, editing}
 use Rattle.format.specs.Numbers.{readNumbers, writeNumbers, editNumbers, Each, none, next, oneOf, numberOf}

@@ -1,15 +1,14 @@
 -- A sheet and its entries: each gives the other back.
-use mathlib.Core.Path.{_≡_, refl, sym, ap, ap₂, _∙_}
-use Prim.Native.Nat.{ℕ, zero, suc, _+_, _-_, _*_, _/_, _%_, _≤_, _<_}
+use mathlib.Core.Path.{_≡_, refl, ap, ap₂, _∙_}
+use Prim.Native.Nat.{ℕ, suc, _+_, _-_, _*_, _<_}
 use native.Mathlib.Omega.{arith}
-use mathlib.Core.Bool.{Bool, true, false, not, _&&_, _||_}
+use mathlib.Core.Bool.{Bool, true, _&&_}
 use mathlib.Core.List.{List, [], _∷_, _++_}
-use lib.ListN.{length, take, drop, getD, length-append}
-use lib.Dec.{leb}
+use lib.ListN.{length, drop, length-append}
 use borrow.Author.Tests.{leb-true}
 use lib.Seq.{take-append-seam, drop-append-seam, drop-at}
-use Rattle.format.specs.Bytes.{same, le16, word}
-use Rattle.format.specs.Sheet.{Entry, heads, bodies, sheetOf, offsetsFit, fitting, rising, cut, bodyAt, countIn, entriesIn, rightSheet}
+use Rattle.format.specs.Bytes.{same, le16}
+use Rattle.format.specs.Sheet.{Entry, heads, bodies, sheetOf, offsetsFit, fitting, rising, cut, bodyAt, entriesIn, rightSheet}
 use Rattle.format.proofs.Tests.{and-l, and-r, and-i, same-refl, same-eq}
 use Rattle.format.proofs.Strings.{word-le16}
 

@@ -1,33 +1,29 @@
 -- The layout of what a readable tag holds exists on that tag: no block of it is longer than what was read.
 use mathlib.Core.Path.{_≡_, refl, sym, ap, ap₂, _∙_}
 use mathlib.Core.Logic.{_⊎_, inl, inr}
-use Prim.Native.Nat.{ℕ, zero, suc, _+_, _-_, _*_, _/_, _%_, _≤_, _<_, min}
+use Prim.Native.Nat.{ℕ, zero, suc, _+_, _-_, _*_, _%_, _≤_}
 use native.Mathlib.Nat.{le-refl}
 use native.Mathlib.Omega.{arith}
 use mathlib.Core.Bool.{Bool, true, false, not, _&&_, _||_, Bool·beq}
 use mathlib.Core.List.{List, [], _∷_, _++_}
 use lib.Dec.{eqb, leb}
-use lib.ListN.{length, take, drop, getD, length-take, length-drop, length-append, length-replicate, replicate}
-use borrow.Author.Tests.{eqb-true, ne-eqb, eqb-false, leb-true, le-leb, leb-false, lt-leb}
-use Rattle.format.specs.Answers.{Answer, got, refused, need, andThen}
-use Rattle.format.specs.Bytes.{if_then_else_, isEmpty, all, bytes, same, part, padWith, strip, trim, upTo, past, joined}
+use lib.ListN.{length, take, drop, getD, length-take, length-drop, length-append}
+use borrow.Author.Tests.{eqb-true, le-leb, lt-leb}
+use Rattle.format.specs.Answers.{got, need, andThen}
+use Rattle.format.specs.Bytes.{if_then_else_, isEmpty, bytes, part, padWith, strip, trim, upTo, past, joined}
 use Rattle.format.specs.Pages.{goodSize}
-use Rattle.format.specs.Fields.{text, isilOf, isil, hyphen, blank, alternate, alternative, isOwner, marker, marked, goodItem, prefixIn, ownerSaid, goodOwner, long, packed, basicOwner}
-use Rattle.format.specs.Chain.{idOf, wellFormed, isLibrary, walk, chain, libraryBlock, otherBlocks, Library, payload, lastField, libraryIn, libraryBytes, sealed, blockOne}
-use Rattle.format.specs.Elements.{Content, numbers, placeIn, place, el, form, value, valuesAt}
-use Rattle.format.specs.Sheet.{Entry, bodies, bodyAt, sheetOf, offsetsFit, fitting, entriesAt, carriedEntries, entries}
-use Rattle.format.specs.Layout.{ownerWidth, ownerOf, usageOf, library, basic, laidOut, fits}
-use Rattle.format.specs.Reading.{mainUsage, itemIn, ownerIn, walked, blocksIn, libraryOn, ownerOn, contentIn, Readable}
-use Rattle.format.proofs.Tests.{never, and-l, and-r, and-i, not-t, or-inv, or-r, same-eq, same-refl}
-use Rattle.format.proofs.Answers.{need-inv, then-inv, got-inj}
+use Rattle.format.specs.Fields.{isilOf, hyphen, blank, alternate, alternative, marker, marked, prefixIn, ownerSaid, goodOwner, long, packed, basicOwner}
+use Rattle.format.specs.Chain.{wellFormed, isLibrary, walk, chain, libraryBlock, otherBlocks, Library, payload, lastField, libraryIn, libraryBytes, sealed, blockOne}
+use Rattle.format.specs.Elements.{Content, numbers, placeIn, place}
+use Rattle.format.specs.Layout.{ownerWidth, ownerOf, library, basic, laidOut, fits}
+use Rattle.format.specs.Reading.{mainUsage, itemIn, ownerIn, blocksIn, libraryOn, ownerOn, contentIn, Readable}
+use Rattle.format.proofs.Tests.{never, and-i, or-inv, or-r, same-eq}
+use Rattle.format.proofs.Answers.{then-inv, got-inj}
 use Rattle.format.proofs.Strings.{empty-of, part-length, strip-length, strip-strip, length-pad, up-to-before, past-before}
-use Rattle.format.proofs.Fields.{Isil, isil-facts, isil-first, Alternative, alternative-facts}
-use Rattle.format.proofs.Blocks.{Whole, well-facts, carried-facts, sealed-length}
-use Rattle.format.proofs.Sheets.{length-sheet}
-use Rattle.format.proofs.Slots.{Sound, sound-parts, form-carriable}
-use Rattle.format.proofs.Values.{value-short}
-use Rattle.format.proofs.Layouts.{basic-length, size-cases, size-most}
-use Rattle.format.proofs.Sound.{capitals-unhyphened, isil-made, prefix-length, Fields, fields-parts, agree-owner, library-tests, library-short, blocks-handed, read-sound}
+use Rattle.format.proofs.Fields.{isil-facts, isil-first, alternative-facts}
+use Rattle.format.proofs.Blocks.{sealed-length}
+use Rattle.format.proofs.Layouts.{basic-length, size-cases}
+use Rattle.format.proofs.Sound.{capitals-unhyphened, isil-made, prefix-length, fields-parts, agree-owner, library-tests, library-short, blocks-handed}
 
 -- ---- how much of a string is left when it is stripped
 

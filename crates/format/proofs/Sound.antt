@@ -1,27 +1,24 @@
 -- Whatever a readable tag holds is sound: a value for each number, blocks that can be carried, no clash.
-use mathlib.Core.Path.{_≡_, refl, sym, ap, ap₂, _∙_}
+use mathlib.Core.Path.{_≡_, refl, sym, ap, _∙_}
 use mathlib.Core.Logic.{_⊎_, inl, inr}
-use Prim.Native.Nat.{ℕ, zero, suc, _+_, _-_, _*_, _/_, _%_, _≤_, _<_, min}
+use Prim.Native.Nat.{ℕ, zero, suc, _+_, _-_, _≤_}
 use native.Mathlib.Omega.{arith}
 use mathlib.Core.Bool.{Bool, true, false, not, _&&_, _||_, Bool·beq}
 use mathlib.Core.List.{List, [], _∷_, _++_}
 use lib.Dec.{eqb, leb}
 use lib.ListN.{length, take, drop, getD, length-take, length-drop, length-append}
-use lib.Seq.{length-take-le}
-use borrow.Author.Tests.{eqb-true, ne-eqb, leb-true, le-leb, lt-leb, eqb-false}
-use Rattle.format.specs.Answers.{Answer, got, refused, need, andThen}
-use Rattle.format.specs.Bytes.{if_then_else_, isEmpty, all, bytes, same, between, part, padWith, strip, upTo, past, joined, trim}
-use Rattle.format.specs.Pages.{goodSize}
-use Rattle.format.specs.Fields.{text, capital, unitByte, isilOf, isil, hyphen, blank, alternate, alternative, isOwner, marker, marked, goodItem, prefixIn, ownerSaid, goodOwner, long}
-use Rattle.format.specs.Chain.{idOf, wellFormed, isLibrary, carriable, walk, chain, libraryBlock, otherBlocks, Library, payload, lastField, libraryIn, goodLibrary}
-use Rattle.format.specs.Elements.{Content, numbers, placeIn, place, el, setBytes, required, shape, form, value, clash, valuesAt, sound}
-use Rattle.format.specs.Reading.{mainUsage, itemIn, ownerIn, walked, blocksIn, libraryOn, goodFields, agree, ownerOn, contentIn, Readable}
-use Rattle.format.proofs.Tests.{never, and-l, and-r, and-i, and-iff, and-no, not-t, or-f, or-inv, or-l, or-r, if-inv, all-drop, bytes-at, same-eq}
+use borrow.Author.Tests.{ne-eqb, leb-true, le-leb, lt-leb}
+use Rattle.format.specs.Answers.{got, need, andThen}
+use Rattle.format.specs.Bytes.{if_then_else_, isEmpty, all, bytes, same, part, strip, past}
+use Rattle.format.specs.Fields.{text, capital, isilOf, isil, hyphen, blank, alternate, alternative, isOwner, marker, marked, goodItem, prefixIn, ownerSaid, goodOwner, long}
+use Rattle.format.specs.Chain.{wellFormed, isLibrary, carriable, walk, chain, libraryBlock, otherBlocks, payload, lastField, libraryIn, goodLibrary}
+use Rattle.format.specs.Elements.{numbers, placeIn, place, shape, form, value, clash, valuesAt, sound}
+use Rattle.format.specs.Reading.{itemIn, ownerIn, blocksIn, libraryOn, goodFields, agree, ownerOn, contentIn, Readable}
+use Rattle.format.proofs.Tests.{never, and-l, and-r, and-i, and-no, or-f, or-inv, if-inv, all-drop, bytes-at, same-eq}
 use Rattle.format.proofs.Answers.{need-inv, then-inv, got-inj}
 use Rattle.format.proofs.Strings.{empty-of, part-length, strip-length, up-to-length, past-length, other, without, up-to-before, past-before}
-use Rattle.format.proofs.Fields.{capital-ge, Isil, isil-facts, isil-first, alternative-facts, owner-facts, text-nil}
-use Rattle.format.proofs.Blocks.{Whole, well-facts}
-use Rattle.format.proofs.Slots.{Sound, parts-sound}
+use Rattle.format.proofs.Fields.{capital-ge, isil-facts, isil-first, alternative-facts}
+use Rattle.format.proofs.Slots.{parts-sound}
 use Rattle.format.proofs.Values.{text-value, set-value}
 
 -- ---- the owner field

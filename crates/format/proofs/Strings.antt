@@ -1,13 +1,13 @@
 -- Laws of byte strings: filled, stripped, parted.
-use mathlib.Core.Path.{_≡_, refl, sym, ap, ap₂, _∙_}
-use Prim.Native.Nat.{ℕ, zero, suc, _+_, _-_, _*_, _/_, _%_, _≤_, _<_}
+use mathlib.Core.Path.{_≡_, refl, ap, ap₂, _∙_}
+use Prim.Native.Nat.{ℕ, zero, suc, _+_, _-_, _/_, _%_, _≤_, _<_}
 use native.Mathlib.Omega.{arith}
-use mathlib.Core.Bool.{Bool, true, false, not, _&&_, _||_}
-use mathlib.Core.List.{List, [], _∷_, _++_, append-assoc, append-nil}
-use lib.ListN.{length, take, drop, getD, replicate, length-append, length-replicate, length-take, length-drop}
-use lib.Dec.{eqb, leb}
-use borrow.Author.Tests.{eqb-true, eq-eqb, eqb-false, ne-eqb}
-use Rattle.format.specs.Bytes.{if_then_else_, isEmpty, all, le16, word, part, padWith, pad, trim, strip, upTo, past, joined}
+use mathlib.Core.Bool.{Bool, true, false, not}
+use mathlib.Core.List.{List, [], _∷_, _++_}
+use lib.ListN.{length, drop, getD, replicate, length-append, length-replicate, length-take}
+use lib.Dec.{eqb}
+use borrow.Author.Tests.{eqb-true, eq-eqb, ne-eqb}
+use Rattle.format.specs.Bytes.{if_then_else_, isEmpty, all, le16, word, part, padWith, pad, trim, strip, upTo, past}
 use Rattle.format.proofs.Tests.{never, and-l, and-r, and-i, not-t}
 
 -- ---- sixteen bits in two bytes

@@ -1,5 +1,5 @@
 -- Laws of tests: what `&&`, `||`, `not`, `if`, `all` and `same` say.
-use mathlib.Core.Path.{_≡_, refl, sym, ap, ap₂, _∙_}
+use mathlib.Core.Path.{_≡_, refl, sym, ap₂, _∙_}
 use mathlib.Core.Logic.{_↔_, _⊎_, inl, inr}
 use Prim.Native.Nat.{ℕ, zero, suc, _≤_, _<_}
 use native.Mathlib.Nat.{suc-ne-zero}
@@ -9,7 +9,7 @@ use mathlib.Core.List.{List, [], _∷_, _++_}
 use lib.ListN.{length, take, drop, getD}
 use lib.Dec.{eqb, leb}
 use borrow.Author.Tests.{eqb-true, eq-eqb, eqb-false, ne-eqb, leb-true, le-leb}
-use Rattle.format.specs.Bytes.{if_then_else_, isEmpty, all, same, bytes}
+use Rattle.format.specs.Bytes.{if_then_else_, all, same, bytes}
 
 -- what is absurd proves anything
 pub never : {A : Type 0} → _≡_ {A = ℕ} 0 1 → A

@@ -1,18 +1,18 @@
 -- What the value of each element is, and how the elements come back from the fields that they are placed in.
-use mathlib.Core.Path.{_≡_, refl, sym, ap, ap₂, _∙_}
+use mathlib.Core.Path.{_≡_, refl, sym, ap₂, _∙_}
 use mathlib.Core.Logic.{_⊎_, inl, inr}
-use Prim.Native.Nat.{ℕ, zero, suc, _+_, _-_, _*_, _/_, _%_, _≤_, _<_}
+use Prim.Native.Nat.{ℕ, _+_, _-_, _*_, _/_, _%_, _≤_, _<_}
 use native.Mathlib.Omega.{arith}
 use mathlib.Core.Bool.{Bool, true, false, not, _&&_, _||_, Bool·beq}
 use mathlib.Core.List.{List, [], _∷_, _++_}
 use lib.Dec.{eqb, leb}
-use lib.ListN.{length, take, drop, getD}
-use borrow.Author.Tests.{eqb-true, eq-eqb, ne-eqb, leb-true, le-leb, lt-leb, leb-false, eqb-false}
+use lib.ListN.{length, getD}
+use borrow.Author.Tests.{eqb-true, eq-eqb, ne-eqb, leb-true, le-leb, lt-leb, eqb-false}
 use Rattle.format.specs.Bytes.{if_then_else_, isEmpty, all, same, le16, word}
 use Rattle.format.specs.Fields.{text, isil, alternate, alternative, isOwner, marker, marked, long, basicOwner}
 use Rattle.format.specs.Elements.{required, partsOf, ordinalOf, setBytes, setInfo, shape, form, value}
 use Rattle.format.specs.Layout.{firstByte}
-use Rattle.format.proofs.Tests.{never, and-l, and-r, and-i, and-iff, and-no, and-left, not-t, not-f, or-l, or-r}
+use Rattle.format.proofs.Tests.{never, and-l, and-r, and-i, and-iff, and-no, and-left, not-t, or-r}
 use Rattle.format.proofs.Strings.{solid, le16-byte}
 use Rattle.format.proofs.Fields.{text-nil, text-unmarked, isil-first, alternative-facts, owner-facts, spoken}
 

@@ -1,25 +1,25 @@
 -- What is written is read back as the same sheet; and the sheet of some elements written down gives their layout.
-use mathlib.Core.Path.{_≡_, refl, sym, ap, ap₂, _∙_}
+use mathlib.Core.Path.{_≡_, ap, ap₂, _∙_}
 use Prim.Native.Nat.{ℕ, _≤_}
-use mathlib.Core.Bool.{Bool, true, false, _&&_}
-use mathlib.Core.List.{List, [], _∷_, _++_}
+use mathlib.Core.Bool.{true, _&&_}
+use mathlib.Core.List.{List}
 use lib.Dec.{leb}
 use lib.ListN.{length}
 use borrow.Author.Tests.{le-leb}
-use Rattle.format.specs.Answers.{Answer, got, inOrder, need}
+use Rattle.format.specs.Answers.{got}
 use Rattle.format.specs.Bytes.{filled}
 use Rattle.format.specs.Pages.{goodSize, lockMap, changed, lockedChanged}
-use Rattle.format.specs.Elements.{Content, clash, sound}
-use Rattle.format.specs.Sheet.{Entry, sheetOf, fitting, entriesIn, rightSheet, contentOf, goodValues, entries}
+use Rattle.format.specs.Elements.{Content, clash}
+use Rattle.format.specs.Sheet.{sheetOf, fitting, entriesIn, contentOf, goodValues, entries}
 use Rattle.format.specs.Layout.{image, fits}
-use Rattle.format.specs.Reading.{contentIn, Readable}
-use Rattle.format.specs.Calls.{sheetIn, readSteps, reading, layingSteps, sheetContent, writeSteps, writing}
+use Rattle.format.specs.Reading.{contentIn}
+use Rattle.format.specs.Calls.{sheetIn, readSteps, reading, sheetContent, writeSteps, writing}
 use Rattle.format.specs.History.{Own}
-use Rattle.format.proofs.Tests.{and-l, and-r, and-i}
+use Rattle.format.proofs.Tests.{and-l}
 use Rattle.format.proofs.Answers.{next-ok, next-inv, none-ok, afterwards-got}
 use Rattle.format.proofs.Readable.{readable-on}
 use Rattle.format.proofs.Sheets.{Right, sheet-right, right-sheet}
-use Rattle.format.proofs.Entries.{values-parts, entries-content, values-sound, Entered, content-entries}
+use Rattle.format.proofs.Entries.{values-parts, entries-content, values-sound, content-entries}
 use Rattle.format.proofs.Slots.{sound-parts}
 use Rattle.format.proofs.Laying.{Laid, laid-on, on-laid, laid-length, laid-own, own-read}
 

@@ -3,11 +3,11 @@
 use mathlib.Core.Path.{_≡_}
 use mathlib.Core.Logic.{_⊎_}
 use Prim.Native.Nat.{ℕ, _+_, _-_, _≤_}
-use mathlib.Core.Bool.{Bool, true, false, _&&_}
+use mathlib.Core.Bool.{true, false}
 use mathlib.Core.List.{List, [], _∷_, _++_}
 use lib.ListN.{length, take, drop, replicate}
 use Rattle.format.specs.Answers.{Answer, plain, got, refused, inOrder, afterwards}
-use Rattle.format.specs.Bytes.{isEmpty, same, pad, upTo}
+use Rattle.format.specs.Bytes.{isEmpty, pad, upTo}
 use Rattle.format.specs.Pages.{pageSize, changed}
 use Rattle.format.specs.Fields.{text, isil, hyphen, isOwner, packed}
 use Rattle.format.specs.Chain.{Library, libraryBytes, blockOne}

@@ -2,7 +2,7 @@
 use mathlib.Core.Path.{_≡_}
 use Prim.Native.Nat.{ℕ, _+_, _%_, _≤_}
 use mathlib.Core.Bool.{true, false}
-use mathlib.Core.List.{List, [], _∷_, _++_}
+use mathlib.Core.List.{List, []}
 use lib.ListN.{length, getD}
 use lib.Dec.{eqb}
 use Rattle.format.specs.declared.Part.{Part}
@@ -10,7 +10,7 @@ use Rattle.format.specs.Answers.{refused, plain}
 use Rattle.format.specs.Bytes.{if_then_else_, same, le16, part, joined, filled}
 use Rattle.format.specs.Pages.{pageSize, goodSize}
 use Rattle.format.specs.Crc.{crc, covered}
-use Rattle.format.specs.Fields.{hyphen, alternate, marked, goodItem, ownerSaid, goodOwner}
+use Rattle.format.specs.Fields.{alternate, marked, goodItem, ownerSaid, goodOwner}
 use Rattle.format.specs.Chain.{libraryBlock, otherBlocks, goodLibrary}
 use Rattle.format.specs.Elements.{el}
 use Rattle.format.specs.Reading.{itemIn, ownerIn, blocksIn, libraryOn, goodFields, contentIn}

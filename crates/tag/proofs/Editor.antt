@@ -1,13 +1,13 @@
 -- Editing: what the stages give is what editing must give.
 use mathlib.Core.Path.{_≡_, refl, sym, ap, ap₂, subst, _∙_}
-use Prim.Native.Nat.{ℕ, zero, suc, _≤_}
-use mathlib.Core.Bool.{Bool, true, false, not, _&&_}
+use Prim.Native.Nat.{ℕ, _≤_}
+use mathlib.Core.Bool.{Bool, true, false, _&&_}
 use mathlib.Core.List.{List, [], _∷_, _++_}
 use lib.Dec.{eqb, leb}
-use lib.ListN.{length, getD, set, drop}
+use lib.ListN.{length, set}
 use native.Mathlib.Omega.{arith}
 use borrow.Author.Tests.{eqb-true, leb-true}
-use Rattle.format.specs.Answers.{Answer, Refusal, got, refused, plain, Step, need, inOrder, afterwards}
+use Rattle.format.specs.Answers.{got, refused, plain, Step, need, inOrder}
 use Rattle.format.specs.Bytes.{if_then_else_, bytes, joined, same, filled}
 use Rattle.format.specs.Pages.{pageSize, goodSize, lockMap, changed}
 use Rattle.format.specs.Elements.{Content, numbers, placeIn, place, el, put, known, value, clash}
@@ -18,19 +18,19 @@ use Rattle.format.specs.Calls.{layingSteps, layoutIs, ownLayout, editSteps, Edi
 use Rattle.format.specs.Numbers.{Edits}
 use Rattle.format.specs.declared.EditAnswer.the-variants as edit
 use Rattle.format.proofs.Tests.{and-l, and-r, eqb-sym}
-use Rattle.format.proofs.Answers.{first-no, next-ok, next-inv, refused-on, refused-with, passed-on, works, worked, got-inj, afterwards-got, afterwards-refused}
+use Rattle.format.proofs.Answers.{first-no, next-ok, next-inv, refused-on, refused-with, passed-on, works, worked, afterwards-got, afterwards-refused}
 use Rattle.format.proofs.Joined.{joined-one, image-joined, fits-joined, clash-joined}
 use Rattle.format.proofs.Readable.{readable-on}
 use Rattle.format.proofs.Slots.{value-of}
 use Rattle.format.proofs.Values.{value-short}
 use Rattle.image.specs.declared.Laid.{Laid}
 use Rattle.image.specs.declared.Laid.the-variants as laid
-use Rattle.look.specs.View.{judged, lookSteps}
+use Rattle.look.specs.View.{judged}
 use Rattle.image.specs.Laying.{laidGiven, laying, Lays}
 use Rattle.render.specs.Rendering.{carriedOn}
 use Rattle.tag.specs.Picking.{picked}
 use Rattle.tag.specs.Editing.{Copied, Editable}
-use Rattle.tag.proofs.Seen.{Slices, slices-elements, slices-valued, seen-carried, seen-elements, seen-valued, seen-clear, seen-sound, seen-size, seen-readable}
+use Rattle.tag.proofs.Seen.{Slices, slices-elements, slices-valued, seen-carried, seen-elements, seen-valued, seen-clear, seen-sound, seen-readable}
 use Rattle.tag.proofs.Writer.{laying-joined}
 
 -- ---- one element picked

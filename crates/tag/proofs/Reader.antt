@@ -1,24 +1,24 @@
 -- Reading: what looking and rendering give is what reading must give.
-use mathlib.Core.Path.{_≡_, refl, sym, ap, ap₂, _∙_}
-use Prim.Native.Nat.{ℕ, _≤_}
-use mathlib.Core.List.{List, [], _∷_, _++_}
+use mathlib.Core.Path.{_≡_, sym, ap, ap₂, _∙_}
+use Prim.Native.Nat.{ℕ}
+use mathlib.Core.List.{List, [], _∷_}
 use lib.Dec.{leb}
 use lib.ListN.{length}
-use Rattle.format.specs.Answers.{Answer, got, refused, plain, need, inOrder, afterwards}
-use Rattle.format.specs.Bytes.{bytes, filled}
+use Rattle.format.specs.Answers.{Answer, got, refused, plain, need, afterwards}
+use Rattle.format.specs.Bytes.{filled}
 use Rattle.format.specs.Pages.{pageSize}
-use Rattle.format.specs.Elements.{Content, value}
+use Rattle.format.specs.Elements.{Content}
 use Rattle.format.specs.Slices.{Valued}
 use Rattle.format.specs.Sheet.{sheetOf, entries, fitting}
-use Rattle.format.specs.Reading.{contentIn, tagSteps}
+use Rattle.format.specs.Reading.{contentIn}
 use Rattle.format.specs.Calls.{sheetIn, readSteps, reading}
-use Rattle.format.specs.Numbers.{readGiven, Reads}
+use Rattle.format.specs.Numbers.{Reads}
 use Rattle.format.specs.declared.ReadAnswer.{ReadAnswer}
 use Rattle.format.specs.declared.ReadAnswer.the-variants as read
 use Rattle.format.proofs.Answers.{next-ok, afterwards-refused}
 use Rattle.format.proofs.Readable.{readable-on}
 use Rattle.format.proofs.Values.{value-short}
-use Rattle.look.specs.View.{judged, lookSteps}
+use Rattle.look.specs.View.{judged}
 use Rattle.render.specs.Rendering.{rendering, Rendered, Short}
 use Rattle.tag.proofs.Seen.{steps-refused, seen-size, seen-readable}
 

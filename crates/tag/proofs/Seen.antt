@@ -1,21 +1,21 @@
 -- What is known of a tag once it has been looked at.
 use mathlib.Core.Path.{_≡_, refl, sym, ap, ap₂, subst, _∙_}
-use mathlib.Core.Logic.{_⊎_, inl, inr}
+use mathlib.Core.Logic.{inl, inr}
 use Prim.Native.Nat.{ℕ, _+_, _-_, _≤_, _<_}
 use native.Mathlib.Omega.{arith}
-use mathlib.Core.Bool.{Bool, true, false}
+use mathlib.Core.Bool.{true, false}
 use mathlib.Core.List.{List, [], _∷_, _++_, append-nil}
 use lib.ListN.{length, take, drop, length-append, length-drop}
 use lib.Seq.{take-append-seam, take-all}
-use Rattle.format.specs.Answers.{Answer, Refusal, got, refused, plain, Step, need, inOrder}
-use Rattle.format.specs.Bytes.{bytes, part, filled}
+use Rattle.format.specs.Answers.{Refusal, got, refused, plain, Step, inOrder}
+use Rattle.format.specs.Bytes.{bytes, filled}
 use Rattle.format.specs.Pages.{pageSize, goodSize}
 use Rattle.format.specs.Elements.{Content, numbers, place, placeIn, el, setBytes, clash, sound}
 use Rattle.format.specs.Slices.{elements, Valued, Held}
 use Rattle.format.specs.Reading.{contentIn, tagSteps, Readable}
 use Rattle.format.proofs.Answers.{next-inv, in-order-append, then-no}
 use Rattle.format.proofs.Readable.{on-readable}
-use Rattle.format.proofs.Slots.{Facts, sound-facts, sound-parts}
+use Rattle.format.proofs.Slots.{sound-facts, sound-parts}
 use Rattle.format.proofs.Sound.{read-sound}
 use Rattle.format.specs.declared.Part.{Part}
 use Rattle.format.proofs.Layouts.{size-most, size-cases}

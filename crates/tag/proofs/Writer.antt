@@ -1,20 +1,20 @@
 -- Writing: what the stages give is what writing must give.
 use mathlib.Core.Path.{_≡_, refl, sym, ap, ap₂, _∙_}
-use Prim.Native.Nat.{ℕ, _≤_}
+use Prim.Native.Nat.{ℕ}
 use mathlib.Core.Bool.{Bool, true, _&&_}
-use mathlib.Core.List.{List, [], _∷_, _++_}
+use mathlib.Core.List.{List, [], _∷_}
 use lib.ListN.{length}
-use Rattle.format.specs.Answers.{Answer, got, refused, plain, Step, need, inOrder, afterwards}
+use Rattle.format.specs.Answers.{Answer, got, refused, plain, need, afterwards}
 use Rattle.format.specs.Bytes.{joined}
-use Rattle.format.specs.Pages.{pageSize, goodSize, lockMap, changed, lockedChanged}
-use Rattle.format.specs.Elements.{Content, numbers, place, placeIn, el, clash}
+use Rattle.format.specs.Pages.{pageSize, goodSize, lockMap}
+use Rattle.format.specs.Elements.{Content, numbers, place, placeIn, el}
 use Rattle.format.specs.Slices.{elements}
 use Rattle.format.specs.Sheet.{rightSheet, entriesIn, goodValues, contentOf}
-use Rattle.format.specs.Layout.{image, fits}
+use Rattle.format.specs.Layout.{image}
 use Rattle.format.specs.Calls.{layingSteps, sheetContent, writeSteps, writing}
 use Rattle.format.specs.Numbers.{Writes}
 use Rattle.format.specs.declared.WriteAnswer.the-variants as write
-use Rattle.format.proofs.Answers.{first-no, next-ok, refused-on, passed-on, afterwards-got, afterwards-refused}
+use Rattle.format.proofs.Answers.{first-no, next-ok, refused-on, afterwards-refused}
 use Rattle.format.proofs.Joined.{joined-one, image-joined, fits-joined, clash-joined}
 use Rattle.sheet.specs.declared.Places.{Places}
 use Rattle.image.specs.declared.Laid.{Laid}

@@ -1,11 +1,11 @@
 -- What writing relies on of a sheet that was judged.
 use mathlib.Core.Path.{_≡_}
-use Prim.Native.Nat.{ℕ, _+_, _≤_}
+use Prim.Native.Nat.{ℕ, _≤_}
 use mathlib.Core.Bool.{true}
-use mathlib.Core.List.{List, [], _∷_}
+use mathlib.Core.List.{List}
 use lib.ListN.{length, drop}
-use Rattle.format.specs.Bytes.{bytes, joined}
-use Rattle.format.specs.Elements.{el, value}
+use Rattle.format.specs.Bytes.{joined}
+use Rattle.format.specs.Elements.{el}
 use Rattle.format.specs.Slices.{Held, Valued}
 use Rattle.format.specs.Sheet.{rightSheet, goodValues, entriesIn}
 use Rattle.format.specs.Calls.{sheetContent}

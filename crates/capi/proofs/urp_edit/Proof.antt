@@ -1,6 +1,6 @@
 -- `urp_edit` takes the answer apart: the number and the results are what the call's contract says.
-use mathlib.Core.Path.{_≡_, refl, sym, ap, _∙_}
-use Rattle.format.specs.Numbers.{numberOf, resultOf, editGiven}
+use mathlib.Core.Path.{sym, ap, _∙_}
+use Rattle.format.specs.Numbers.{numberOf, editGiven}
 use Rattle.capi.proofs.Given.{result-got, result-refused}
 use borrow.Author.Needs.{needs}
 use Rattle.capi.proofs.urp_edit.Statement.{statement}

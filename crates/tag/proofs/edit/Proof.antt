@@ -1,10 +1,9 @@
 -- `edit` judges size and lock map, and copies the tag.
 use mathlib.Core.Path.{_≡_, refl, sym, ap, _∙_}
 use Prim.Native.Nat.{ℕ, _≤_}
-use mathlib.Core.Bool.{Bool, true, _&&_}
+use mathlib.Core.Bool.{true, _&&_}
 use mathlib.Core.List.{List, _++_}
-use native.Mathlib.Omega.{arith}
-use lib.ListN.{length, take, drop, replicate}
+use lib.ListN.{length, drop, replicate}
 use lib.Seq.{take-length}
 use Rattle.format.specs.Pages.{pageSize, goodSize, lockMap}
 use Rattle.format.proofs.Tests.{and-l}

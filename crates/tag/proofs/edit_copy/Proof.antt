@@ -1,5 +1,5 @@
 -- `edit_copy` passes the refusal of looking on, or edits what was seen.
-use mathlib.Core.Path.{_≡_, ap, _∙_}
+use mathlib.Core.Path.{ap, _∙_}
 use Rattle.look.specs.Looking.{lookNumber}
 use Rattle.tag.proofs.Seen.{looked-seen, looked-refused}
 use Rattle.tag.proofs.Editor.{copy-look-edits}

@@ -1,15 +1,11 @@
 -- `edit_elements`: 13, 2 and 9 by `edit_stage`, 10, 11 and 12 by `lay` with the new bytes in their place, then the old element.
-use mathlib.Core.Path.{_≡_, refl, sym, ap, _∙_}
+use mathlib.Core.Path.{_≡_, sym, ap, _∙_}
 use Prim.Native.Nat.{ℕ}
 use mathlib.Core.List.{List, _∷_, [], _++_}
-use native.Mathlib.Omega.{arith}
-use lib.ListN.{length, take, drop}
+use lib.ListN.{length, drop}
 use lib.Seq.{take-length}
-use Rattle.format.specs.Bytes.{filled}
-use Rattle.format.specs.Elements.{el, value}
-use Rattle.format.specs.Reading.{contentIn}
+use Rattle.format.specs.Elements.{value}
 use Rattle.format.proofs.Tests.{and-l}
-use Rattle.format.proofs.Answers.{got-inj}
 use Rattle.tag.specs.Stages.{stageGiven, stageNumber}
 use Rattle.tag.specs.Stages.{laidNumber}
 use Rattle.tag.proofs.Editor.{Picked, picks-valued, picks-lays, held, held-valued, rowed-clear, late-edits, late-value, late-old, laid-refused-edits, laid-done-edits, held-element}

@@ -1,5 +1,5 @@
 -- `edit_stage` makes the three tests in order.
-use mathlib.Core.Path.{_≡_, refl, sym, ap, _∙_}
+use mathlib.Core.Path.{sym, _∙_}
 use borrow.Author.Tests.{not-true, not-false, lt-leb, le-leb}
 use Rattle.format.proofs.Answers.{next-ok, next-no, none-ok}
 use borrow.Author.Needs.{needs}

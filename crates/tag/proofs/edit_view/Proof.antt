@@ -1,11 +1,10 @@
 -- `edit_view` lends the parts that the view tells of, and the carried blocks in a row: they are the elements of the tag.
-use mathlib.Core.Path.{_≡_, refl, sym, ap, _∙_}
-use Prim.Native.Nat.{ℕ, _+_, _-_, _≤_, _<_}
-use mathlib.Core.Bool.{true}
-use mathlib.Core.List.{List, _∷_, []}
+use mathlib.Core.Path.{_∙_}
+use Prim.Native.Nat.{_+_, _-_}
+use mathlib.Core.List.{_∷_, []}
 use native.Mathlib.Omega.{arith}
-use lib.ListN.{length, take, drop, replicate}
-use Rattle.format.specs.Bytes.{bytes, joined}
+use lib.ListN.{take, drop, replicate}
+use Rattle.format.specs.Bytes.{joined}
 use Rattle.format.specs.Elements.{el}
 use Rattle.format.specs.Reading.{contentIn}
 use Rattle.format.proofs.Tests.{bytes-all}

@@ -1,5 +1,5 @@
 -- `read` passes the refusal of looking on, or reads what was seen.
-use mathlib.Core.Path.{_≡_, ap, _∙_}
+use mathlib.Core.Path.{ap, _∙_}
 use Rattle.look.specs.Looking.{lookNumber}
 use Rattle.tag.proofs.Seen.{looked-seen, looked-refused}
 use Rattle.tag.proofs.Reader.{refused-reads}

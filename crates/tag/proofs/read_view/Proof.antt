@@ -1,18 +1,16 @@
 -- `read_view` lends render the parts that the view tells of: they are the elements of the tag.
-use mathlib.Core.Path.{_≡_, refl, sym, ap, subst, _∙_}
-use Prim.Native.Nat.{ℕ, _+_, _-_, _≤_, _<_}
+use mathlib.Core.Path.{_≡_, ap, _∙_}
+use Prim.Native.Nat.{ℕ, _+_, _-_}
 use mathlib.Core.Bool.{true}
 use mathlib.Core.List.{List, _∷_, []}
 use native.Mathlib.Omega.{arith}
 use lib.ListN.{length, take, drop, replicate}
 use Rattle.format.specs.Bytes.{bytes, joined}
 use Rattle.format.specs.Elements.{el}
-use Rattle.format.specs.Slices.{elements}
-use Rattle.format.specs.Sheet.{Entry, entries}
 use Rattle.format.specs.Reading.{contentIn}
 use Rattle.format.proofs.Tests.{bytes-all}
 use Rattle.look.specs.View.{isilSeen}
-use Rattle.render.specs.Rendering.{carriedOn, Rendered}
+use Rattle.render.specs.Rendering.{carriedOn}
 use Rattle.tag.proofs.Seen.{held-part, front-part, front-within, set-part, seen-carried, Slices, slices-elements, slices-valued, seen-whole, seen-valued, seen-least, seen-most, seen-readable}
 use Rattle.tag.proofs.Reader.{valued-short, rendered-reads}
 use borrow.Author.Needs.{needs}

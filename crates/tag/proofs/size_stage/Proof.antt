@@ -1,8 +1,7 @@
 -- `size_stage` tests the length and then the lock map; either is 1.
-use mathlib.Core.Path.{_≡_, refl, sym, ap, _∙_}
-use mathlib.Core.Bool.{Bool, true, false, _&&_}
+use mathlib.Core.Path.{_≡_, sym, _∙_}
+use mathlib.Core.Bool.{true, false, _&&_}
 use borrow.Author.Tests.{not-true, not-false}
-use Rattle.format.specs.Answers.{need}
 use Rattle.format.specs.Pages.{pageSize, goodSize, lockMap}
 use Rattle.format.proofs.Tests.{and-left, and-no, and-i}
 use Rattle.format.proofs.Answers.{need-ok, need-no}

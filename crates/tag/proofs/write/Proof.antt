@@ -1,8 +1,7 @@
 -- `write` passes the refusals of its stages on, or lays the sheet's elements down.
-use mathlib.Core.Path.{_≡_, refl, sym, ap, _∙_}
-use mathlib.Core.Bool.{Bool, true, _&&_}
+use mathlib.Core.Path.{sym, ap, _∙_}
+use mathlib.Core.Bool.{_&&_}
 use lib.ListN.{length}
-use Rattle.format.specs.Answers.{need}
 use Rattle.format.specs.Pages.{pageSize, goodSize, lockMap}
 use Rattle.format.proofs.Answers.{need-inv}
 use Rattle.tag.specs.Stages.{stageGiven, stageNumber, scanNumber}

@@ -1,19 +1,13 @@
 -- `write_places` lends lay the parts of the sheet that the places tell of: they are its elements.
-use mathlib.Core.Path.{_≡_, refl, sym, ap, subst, _∙_}
-use Prim.Native.Nat.{ℕ, _+_, _-_}
-use mathlib.Core.Bool.{Bool, true, _&&_}
-use mathlib.Core.List.{List, _∷_, []}
+use mathlib.Core.Path.{_≡_, ap, _∙_}
+use Prim.Native.Nat.{_+_, _-_}
 use lib.ListN.{length, take, drop}
-use Rattle.format.specs.Pages.{pageSize, goodSize, lockMap}
 use Rattle.format.specs.Bytes.{joined}
-use Rattle.format.specs.Elements.{Content, el}
-use Rattle.format.specs.Slices.{elements}
-use Rattle.format.specs.Layout.{image}
+use Rattle.format.specs.Elements.{el}
 use Rattle.format.specs.Calls.{sheetContent}
 use Rattle.format.proofs.Tests.{and-l}
-use Rattle.format.proofs.Joined.{joined-one}
 use Rattle.tag.specs.Stages.{laidNumber}
-use Rattle.tag.proofs.Seen.{held-part, rest-part, Slices, slices-elements, slices-valued}
+use Rattle.tag.proofs.Seen.{held-part, rest-part, Slices, slices-valued}
 use Rattle.tag.proofs.Writer.{slices-laying, sheet-elements, laid-refused-writes, laid-done-writes}
 use borrow.Author.Needs.{needs}
 use Rattle.tag.proofs.write_places.Statement.{statement}
