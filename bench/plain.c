@@ -729,13 +729,15 @@ static void put_basic(const struct content *c, uint8_t *image, size_t tag_len,
     }
 }
 
-/* Lays a content that does not clash out as a tag of tag_len bytes: 11. */
+/* Lays a content out as a tag of tag_len bytes: 10 and 11. */
 static uint32_t lay_out(const struct content *c, uint8_t *image, size_t tag_len)
 {
     size_t room = tag_len == SHORT_TAG ? 0 : tag_len - BASIC;
     size_t size;
     struct fields more;
 
+    if (clashes(c))
+        return URP_CLASH;
     memset(image, 0, tag_len);
     put_basic(c, image, tag_len, &more);
     size = block1_size(&more);
@@ -779,6 +781,7 @@ uint32_t urp_write(const uint8_t *sheet, size_t sheet_len,
     struct content c;
     uint8_t image[URP_TAG_MAX];
     size_t count;
+    uint32_t refusal;
 
     if (!is_tag_size(tag_len) || !is_lock_map(locks, locks_len, tag_len))
         return URP_SIZE;
@@ -786,10 +789,9 @@ uint32_t urp_write(const uint8_t *sheet, size_t sheet_len,
         return URP_SHEET;
     if (!take_entries(sheet, sheet_len, &c))
         return URP_VALUE;
-    if (clashes(&c))
-        return URP_CLASH;
-    if (lay_out(&c, image, tag_len) != URP_DONE)
-        return URP_LARGE;
+    refusal = lay_out(&c, image, tag_len);
+    if (refusal != URP_DONE)
+        return refusal;
     if (count_pages(tag, image, tag_len, locks, &count) != URP_DONE)
         return URP_LOCKED;
 
@@ -849,10 +851,9 @@ uint32_t urp_edit(uint8_t *tag, size_t tag_len,
         return URP_VALUE;
     before = c.slot[slot];
     c.slot[slot] = span_of(value, value_len);
-    if (clashes(&c))
-        return URP_CLASH;
-    if (lay_out(&c, image, tag_len) != URP_DONE)
-        return URP_LARGE;
+    refusal = lay_out(&c, image, tag_len);
+    if (refusal != URP_DONE)
+        return refusal;
     if (count_pages(tag, image, tag_len, locks, &count) != URP_DONE)
         return URP_LOCKED;
 
