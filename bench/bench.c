@@ -1,10 +1,11 @@
-/* bench.c: two libraries with the calls of urpanella.h, A (urp_read, ..) and
-   B (plain_read, ..), on the same inputs in one run.
-     bench time REPETITIONS     medians: nanoseconds for each call, and A / B
+/* bench.c: libraries with the calls of urpanella.h, A (urp_read, ..), B
+   (plain_read, ..) and, where WITH_RUST is defined, C (rust_read, ..), on the
+   same inputs in one run.
+     bench time REPETITIONS     medians: nanoseconds for each call, A / B, A / C
      bench names                the rows of the table, one to a line
-     bench calls A|B            each row's two calls once, for a counter of
+     bench calls A|B|C          each row's two calls once, for a counter of
                                 instructions: nothing else calls that library
-   Before anything is timed both must give the same answers and bytes. */
+   Before anything is timed all must give the same answers and bytes. */
 #define _POSIX_C_SOURCE 199309L
 #include "urpanella.h"
 
@@ -25,14 +26,29 @@ extern read_call plain_read;
 extern write_call plain_write;
 extern edit_call plain_edit;
 
+#ifdef WITH_RUST
+extern read_call rust_read;
+extern write_call rust_write;
+extern edit_call rust_edit;
+#endif
+
 struct library {
     read_call *read;
     write_call *write;
     edit_call *edit;
 };
 
-static const struct library library_a = { urp_read, urp_write, urp_edit };
-static const struct library library_b = { plain_read, plain_write, plain_edit };
+static const struct library libraries[] = {
+    { urp_read, urp_write, urp_edit },
+    { plain_read, plain_write, plain_edit },
+#ifdef WITH_RUST
+    { rust_read, rust_write, rust_edit },
+#endif
+};
+
+enum { A, B };
+
+enum { LIBRARIES = sizeof libraries / sizeof libraries[0] };
 
 enum { MOST_REPETITIONS = 1001, SLICE_NS = 200000 };
 
@@ -88,10 +104,12 @@ static void stop(const char *message)
     exit(1);
 }
 
-static void stop_at(const struct row *row, enum call call, const char *message)
+static void stop_at(const struct row *row, enum call call, int library,
+                    const char *message)
 {
-    fprintf(stderr, "bench: %s, %lu bytes, blocks %s: %s\n", call_names[call],
-            (unsigned long)row->tag_len, block_names[row->blocks], message);
+    fprintf(stderr, "bench: %s, %lu bytes, blocks %s: %c %s\n",
+            call_names[call], (unsigned long)row->tag_len,
+            block_names[row->blocks], 'A' + library, message);
     exit(1);
 }
 
@@ -255,24 +273,25 @@ static void make_calls(const struct library *lib, enum call call,
     }
 }
 
-/* Both libraries must do the same, and change something where they should. */
+/* All libraries must do the same, and change something where they should. */
 static void compare(const struct row *row, enum call call,
                     const struct inputs *in)
 {
-    static struct outputs a, b;
+    static struct outputs out[LIBRARIES];
     size_t turns;
+    int i;
 
     for (turns = 1; turns <= 2; turns++) {
-        begin(&a, in);
-        begin(&b, in);
-        make_calls(&library_a, call, in, &a, turns);
-        make_calls(&library_b, call, in, &b, turns);
-        if (a.refusals != 0 || b.refusals != 0)
-            stop_at(row, call, a.refusals ? "A refuses" : "B refuses");
-        if (memcmp(&a, &b, sizeof a) != 0)
-            stop_at(row, call, "A and B leave different bytes");
-        if (call != READ && a.pages == 0)
-            stop_at(row, call, "nothing changes");
+        for (i = 0; i < LIBRARIES; i++) {
+            begin(&out[i], in);
+            make_calls(&libraries[i], call, in, &out[i], turns);
+            if (out[i].refusals != 0)
+                stop_at(row, call, i, "refuses");
+            if (call != READ && out[i].pages == 0)
+                stop_at(row, call, i, "changes nothing");
+            if (memcmp(&out[i], &out[A], sizeof out[i]) != 0)
+                stop_at(row, call, i, "leaves other bytes than A");
+        }
     }
 }
 
@@ -310,34 +329,45 @@ static double median(double *times, size_t count)
     return times[count / 2];
 }
 
-/* Times one call of one row: A and B take turns, and so does who is first. The
-   ratio is the median of those of neighbouring slices, which other work on the
-   machine slows alike. */
+static void print_name(const struct row *row, enum call call)
+{
+    printf("%5lu  %-6s  %-5s", (unsigned long)row->tag_len,
+           block_names[row->blocks], call_names[call]);
+}
+
+/* Times one call of one row: the libraries take turns, and so does who is first.
+   A ratio is the median of those within a turn, which other work on the machine
+   slows alike. */
 static void time_call(const struct row *row, enum call call,
                       const struct inputs *in, size_t repetitions)
 {
     static struct outputs out;
-    static double a[MOST_REPETITIONS], b[MOST_REPETITIONS];
-    static double ratio[MOST_REPETITIONS];
+    static double times[LIBRARIES][MOST_REPETITIONS];
+    static double ratios[LIBRARIES][MOST_REPETITIONS];
     size_t turns = 2, i;
+    int k;
 
     begin(&out, in);
-    while ((double)turns * slice(&library_b, call, in, &out, turns) < SLICE_NS)
+    while ((double)turns * slice(&libraries[B], call, in, &out, turns)
+           < SLICE_NS)
         turns *= 2;
     for (i = 0; i < repetitions; i++) {
-        if (i % 2 == 0)
-            a[i] = slice(&library_a, call, in, &out, turns);
-        b[i] = slice(&library_b, call, in, &out, turns);
-        if (i % 2 != 0)
-            a[i] = slice(&library_a, call, in, &out, turns);
-        ratio[i] = a[i] / b[i];
+        for (k = 0; k < LIBRARIES; k++) {
+            size_t which = (i + (size_t)k) % LIBRARIES;
+
+            times[which][i] = slice(&libraries[which], call, in, &out, turns);
+            if (out.refusals != 0)
+                stop_at(row, call, (int)which, "refuses a timed call");
+        }
+        for (k = B; k < LIBRARIES; k++)
+            ratios[k][i] = times[A][i] / times[k][i];
     }
-    if (out.refusals != 0)
-        stop_at(row, call, "a timed call is refused");
-    printf("%5lu  %-6s  %-5s  %9.0f  %9.0f  %6.2f\n",
-           (unsigned long)row->tag_len, block_names[row->blocks],
-           call_names[call], median(a, repetitions), median(b, repetitions),
-           median(ratio, repetitions));
+    print_name(row, call);
+    for (k = A; k < LIBRARIES; k++)
+        printf("  %9.0f", median(times[k], repetitions));
+    for (k = B; k < LIBRARIES; k++)
+        printf("  %6.2f", median(ratios[k], repetitions));
+    printf("\n");
 }
 
 /* ---- the three commands ---- */
@@ -348,9 +378,8 @@ static void time_all(size_t repetitions)
     size_t r;
     int call;
 
-    printf("bytes  blocks  call        A ns       B ns     A/B\n");
     for (r = 0; r < ROWS; r++) {
-        make_inputs(&rows[r], &library_b, &in);
+        make_inputs(&rows[r], &libraries[B], &in);
         for (call = READ; call < CALLS; call++) {
             compare(&rows[r], (enum call)call, &in);
             time_call(&rows[r], (enum call)call, &in, repetitions);
@@ -363,13 +392,16 @@ static void print_names(void)
     size_t r;
     int call;
 
-    for (r = 0; r < ROWS; r++)
-        for (call = READ; call < CALLS; call++)
-            printf("%5lu  %-6s  %-5s\n", (unsigned long)rows[r].tag_len,
-                   block_names[rows[r].blocks], call_names[call]);
+    for (r = 0; r < ROWS; r++) {
+        for (call = READ; call < CALLS; call++) {
+            print_name(&rows[r], (enum call)call);
+            printf("\n");
+        }
+    }
 }
 
-static void call_all(const struct library *lib, const struct library *other)
+/* Another library makes the inputs. */
+static void call_all(int which)
 {
     static struct inputs in;
     static struct outputs out;
@@ -377,12 +409,12 @@ static void call_all(const struct library *lib, const struct library *other)
     int call;
 
     for (r = 0; r < ROWS; r++) {
-        make_inputs(&rows[r], other, &in);
+        make_inputs(&rows[r], &libraries[which == A ? B : A], &in);
         for (call = READ; call < CALLS; call++) {
             begin(&out, &in);
-            make_calls(lib, (enum call)call, &in, &out, 2);
+            make_calls(&libraries[which], (enum call)call, &in, &out, 2);
             if (out.refusals != 0)
-                stop_at(&rows[r], (enum call)call, "a counted call is refused");
+                stop_at(&rows[r], (enum call)call, which, "refuses a call");
         }
     }
 }
@@ -396,10 +428,12 @@ int main(int argc, char **argv)
 {
     if (is_command(argc, argv, 2, "names")) {
         print_names();
-    } else if (is_command(argc, argv, 3, "calls") && argv[2][0] == 'A') {
-        call_all(&library_a, &library_b);
-    } else if (is_command(argc, argv, 3, "calls") && argv[2][0] == 'B') {
-        call_all(&library_b, &library_a);
+    } else if (is_command(argc, argv, 3, "calls")) {
+        int which = argv[2][0] - 'A';
+
+        if (which < A || which >= LIBRARIES)
+            stop("no such library");
+        call_all(which);
     } else if (is_command(argc, argv, 3, "time")) {
         unsigned long repetitions = strtoul(argv[2], NULL, 10);
 
@@ -407,7 +441,7 @@ int main(int argc, char **argv)
             stop("1 to 1001 repetitions");
         time_all((size_t)repetitions);
     } else {
-        stop("usage: bench time REPETITIONS | names | calls A|B");
+        stop("usage: bench time REPETITIONS | names | calls A|B|C");
     }
     return 0;
 }

@@ -1,6 +1,7 @@
-# How C is compiled, linked and run here. Read by examples/build and bench/run,
-# which set me (the name for messages), root (the repository) and kit (yes or
-# no). Static libraries are x86-64 on every machine, so programs are too:
+# How C is compiled, linked and run here. Read by examples/build, bench/run and
+# scripts of tests/, which set me (the name for messages), root (the repository)
+# and kit (yes or no). Static libraries are x86-64 on every machine, so programs
+# are too:
 #   on x86-64   cc, unless kit is yes;
 #   on Arm      the kit's clang, ld.lld and emulator, with the headers of
 #               examples/libc. kit=yes tries the same, without the emulator, on

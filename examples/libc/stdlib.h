@@ -3,6 +3,8 @@
 
 #include <stddef.h>
 
+void abort(void);
+int atexit(void (*at_end)(void));
 void exit(int status);
 void qsort(void *items, size_t count, size_t size,
            int (*order)(const void *, const void *));

@@ -1,0 +1,115 @@
+/* stack.c: stands between a program and a library with the calls of urpanella.h
+   and measures the stack that each call takes. The program is compiled with
+   urp_read as stack_read, and so on for the other two.
+   The stack below is painted before a call; afterwards the lowest byte without
+   paint is looked for. At the end of the program a line for each call goes to
+   standard error: the bytes of the deepest call that was done, and of the
+   deepest that was refused; 0 where there was none. Nothing is seen deeper than
+   the paint goes.
+   Run it with LD_BIND_NOW=1: a function's first call is otherwise preceded by
+   the search for it, which takes stack too. */
+#include "urpanella.h"
+
+#include <stdio.h>
+#include <stdlib.h>
+#include <string.h>
+
+enum {
+    PAINTED = 32768,
+    KEPT = 256,      /* for the frames of paint and memset */
+    PAINT = 0xA5,
+    STEP = 64        /* bytes that are looked at together; divides the others */
+};
+
+enum call { READ, WRITE, EDIT, CALLS };
+
+static const char *const call_names[CALLS] = { "read", "write", "edit" };
+
+static size_t deepest[CALLS][2];  /* done, refused */
+
+static uint8_t fresh[STEP];
+
+/* The library is x86-64 everywhere, and so is this. */
+#define GET_STACK_POINTER(p) __asm__ volatile ("movq %%rsp, %0" : "=r" (p))
+
+static void report(void)
+{
+    int call;
+
+    for (call = READ; call < CALLS; call++)
+        fprintf(stderr, "stack %s %lu %lu\n", call_names[call],
+                (unsigned long)deepest[call][0],
+                (unsigned long)deepest[call][1]);
+}
+
+static void paint(uint8_t *top)
+{
+    static int is_first = 1;
+
+    if (is_first) {
+        memset(fresh, PAINT, STEP);
+        if (atexit(report) != 0)
+            abort();
+    }
+    is_first = 0;
+    memset(top - PAINTED, PAINT, PAINTED - KEPT);
+}
+
+static uint32_t noted(enum call call, const uint8_t *top, uint32_t answer)
+{
+    size_t depth = PAINTED;
+    size_t *most = &deepest[call][answer != URP_DONE];
+
+    while (depth > KEPT && memcmp(top - depth, fresh, STEP) == 0)
+        depth -= STEP;
+    if (depth == PAINTED) {
+        fprintf(stderr, "stack: %s takes all that was painted\n",
+                call_names[call]);
+        abort();
+    }
+    while (depth > KEPT && top[-(long)depth] == PAINT)
+        depth--;
+    if (*most < depth)
+        *most = depth;
+    return answer;
+}
+
+uint32_t stack_read(const uint8_t *tag, size_t tag_len,
+                    uint8_t *sheet, size_t sheet_len,
+                    size_t *used)
+{
+    uint8_t *top;
+
+    GET_STACK_POINTER(top);
+    paint(top);
+    return noted(READ, top, urp_read(tag, tag_len, sheet, sheet_len, used));
+}
+
+uint32_t stack_write(const uint8_t *sheet, size_t sheet_len,
+                     uint8_t *tag, size_t tag_len,
+                     const uint8_t *locks, size_t locks_len,
+                     size_t *pages)
+{
+    uint8_t *top;
+
+    GET_STACK_POINTER(top);
+    paint(top);
+    return noted(WRITE, top, urp_write(sheet, sheet_len, tag, tag_len, locks,
+                                       locks_len, pages));
+}
+
+uint32_t stack_edit(uint8_t *tag, size_t tag_len,
+                    const uint8_t *locks, size_t locks_len,
+                    uint32_t number,
+                    const uint8_t *value, size_t value_len,
+                    uint8_t *old, size_t old_len,
+                    size_t *pages, size_t *old_used)
+{
+    uint8_t *top;
+
+    GET_STACK_POINTER(top);
+    paint(top);
+    return noted(EDIT, top, urp_edit(tag, tag_len, locks, locks_len, number,
+                                     value, value_len, old, old_len, pages,
+                                     old_used));
+}
