@@ -50,7 +50,7 @@ enum { A, B };
 
 enum { LIBRARIES = sizeof libraries / sizeof libraries[0] };
 
-enum { MOST_REPETITIONS = 1001, SLICE_NS = 200000 };
+enum { MOST_REPETITIONS = 1001, SLICE_NS = 200000, CALIBRATIONS = 5 };
 
 /* What a tag holds besides its first 34 bytes. */
 enum blocks { NONE, FEW, LONG, MANY };
@@ -282,7 +282,7 @@ static void compare(const struct row *row, enum call call,
     int i;
 
     for (turns = 1; turns <= 2; turns++) {
-        for (i = 0; i < LIBRARIES; i++) {
+        for (i = A; i < LIBRARIES; i++) {
             begin(&out[i], in);
             make_calls(&libraries[i], call, in, &out[i], turns);
             if (out[i].refusals != 0)
@@ -335,27 +335,49 @@ static void print_name(const struct row *row, enum call call)
            block_names[row->blocks], call_names[call]);
 }
 
+/* The even count of calls that takes about as long for every library, so that
+   other work on the machine breaks into all slices alike. The shortest of a few
+   slices is one that it has not broken into. */
+static size_t calibrate(const struct library *lib, enum call call,
+                        const struct inputs *in, struct outputs *out)
+{
+    size_t turns = 1;
+    double least;
+    int tries;
+
+    do {
+        turns *= 2;
+        least = slice(lib, call, in, out, turns);
+        for (tries = 1; tries < CALIBRATIONS; tries++) {
+            double again = slice(lib, call, in, out, turns);
+
+            if (again < least)
+                least = again;
+        }
+    } while ((double)turns * least < SLICE_NS);
+    return turns;
+}
+
 /* Times one call of one row: the libraries take turns, and so does who is first.
-   A ratio is the median of those within a turn, which other work on the machine
-   slows alike. */
+   A ratio is the median of those of neighbouring slices. */
 static void time_call(const struct row *row, enum call call,
                       const struct inputs *in, size_t repetitions)
 {
     static struct outputs out;
     static double times[LIBRARIES][MOST_REPETITIONS];
     static double ratios[LIBRARIES][MOST_REPETITIONS];
-    size_t turns = 2, i;
+    size_t turns[LIBRARIES], i;
     int k;
 
     begin(&out, in);
-    while ((double)turns * slice(&libraries[B], call, in, &out, turns)
-           < SLICE_NS)
-        turns *= 2;
+    for (k = A; k < LIBRARIES; k++)
+        turns[k] = calibrate(&libraries[k], call, in, &out);
     for (i = 0; i < repetitions; i++) {
-        for (k = 0; k < LIBRARIES; k++) {
+        for (k = A; k < LIBRARIES; k++) {
             size_t which = (i + (size_t)k) % LIBRARIES;
 
-            times[which][i] = slice(&libraries[which], call, in, &out, turns);
+            times[which][i] = slice(&libraries[which], call, in, &out,
+                                    turns[which]);
             if (out.refusals != 0)
                 stop_at(row, call, (int)which, "refuses a timed call");
         }
