@@ -1,5 +1,5 @@
 -- What judging a sheet answers, from the tests one after the other.
-use mathlib.Core.Path.{_≡_, refl, sym, ap₂, _∙_}
+use mathlib.Core.Path.{_≡_, refl, sym, _∙_}
 use Prim.Native.Nat.{ℕ, suc}
 use native.Mathlib.Omega.{arith}
 use mathlib.Core.Bool.{true, false, not, _&&_}
@@ -11,32 +11,20 @@ use Rattle.format.specs.Answers.{plain, got, refused}
 use Rattle.format.specs.Bytes.{if_then_else_, isEmpty, all}
 use Rattle.format.specs.Elements.{numbers}
 use Rattle.format.specs.Sheet.{Entry, entriesIn, rightSheet, find, formed, goodValues}
-use Rattle.format.specs.declared.Part.{Part}
 use Rattle.format.proofs.Answers.{next-ok, next-no, none-ok}
-use Rattle.sheet.specs.Heads.{Sought}
-use Rattle.sheet.specs.Scanning.{bodyIn, startOf, placeOf, placesIn, scanning}
+use Rattle.sheet.specs.declared.Found.{Found}
+use Rattle.sheet.specs.Heads.{Sought, placed}
+use Rattle.sheet.specs.Scanning.{placeOf, placesIn, scanning}
 
 -- ---- where an element stands
 
-abbrev place : ℕ → ℕ → List ℕ → Part
-place n start bytes = record { at = if isEmpty bytes then 0 else start; len = length bytes }
+empty-length : (s : List ℕ) → isEmpty s ≡ eqb (length s) 0
+empty-length [] = refl
+empty-length (x ∷ s) = sym (ne-eqb (suc (length s)) 0 (omega arith))
 
-pub place-none : (s : List ℕ) (n : ℕ) → length (find n (entriesIn s)) ≡ 0 → record { at = 0; len = 0 } ≡ placeOf s n
-unfolding placeOf
-place-none s n e = go (find n (entriesIn s)) e
-  where
-    go : (bytes : List ℕ) → length bytes ≡ 0 → record { at = 0; len = 0 } ≡ place n (startOf n (bodyIn s) (entriesIn s)) bytes
-    go [] h = refl
-    go (x ∷ bytes) h = absurd (omega arith)
-
-pub place-some : (s : List ℕ) (n : ℕ) (p : Part) → Sought s n p → (p .len ≡ 0 → ⊥)
-    → p ≡ placeOf s n
-unfolding placeOf
-place-some s n p k some = go (find n (entriesIn s)) (k .length-is)
-  where
-    go : (bytes : List ℕ) → p .len ≡ length bytes → p ≡ place n (startOf n (bodyIn s) (entriesIn s)) bytes
-    go [] h = absurd (some h)
-    go (x ∷ bytes) h = ap₂ (λ (a l : ℕ). record { at = a; len = l }) (k .start-is) h
+pub placed-is : (s : List ℕ) (n : ℕ) (f : Found) → Sought s n f → placed f ≡ placeOf s n
+unfolding placeOf placed
+placed-is s n f k = rw (k .length-is, k .start-is, empty-length (find n (entriesIn s)))
 
 -- ---- the answer
 
@@ -58,10 +46,6 @@ scan-got s e g = sym (next-ok 8 (rightSheet s) _ (placesIn s) e ∙ next-ok 9 (g
 values-are : (es : List Entry) → goodValues es ≡ all formed es && (not (isEmpty (find 4 es)) && (not (isEmpty (find 5 es)) && true))
 unfolding goodValues all numbers
 values-are es = refl
-
-empty-length : (s : List ℕ) → isEmpty s ≡ eqb (length s) 0
-empty-length [] = refl
-empty-length (x ∷ s) = sym (ne-eqb (suc (length s)) 0 (omega arith))
 
 pub unformed-bad : (es : List Entry) → all formed es ≡ false → goodValues es ≡ false
 unformed-bad es e = values-are es ∙ rw e

@@ -14,7 +14,7 @@ use Rattle.format.specs.Sheet.{Entry, heads, bodies, sheetOf, offsetsFit, fitti
 use Rattle.format.proofs.Tests.{never, and-l, and-r, and-i, all-drop, bytes-at, same-refl}
 use Rattle.format.proofs.Strings.{word-le16, le16-word, nil-of}
 use Rattle.format.proofs.Sheets.{length-heads, length-sheet, fit-count, sheet-right}
-use Rattle.sheet.specs.Heads.{least}
+use Rattle.sheet.specs.Heads.{least, headsRight}
 use Rattle.sheet.specs.Scanning.{bodyIn}
 
 -- two tests that are true together are the same
@@ -22,13 +22,6 @@ pub same-truth : (a b : Bool) → (a ≡ true → b ≡ true) → (b ≡ true �
 same-truth true b f g = sym (f refl)
 same-truth false true f g = g refl
 same-truth false false f g = refl
-
--- k heads at h, numbers from `low` on: each number may come, each offset is where its bytes begin, and the last bytes end at `stop`
-unfoldable pub headsRight : ℕ → ℕ → ℕ → List ℕ → ℕ → Bool
-headsRight zero low at h stop = eqb at stop
-headsRight (suc k) low at h stop =
-    leb low (getD h 0 0)
-    && (eqb (word (getD h 1 0) (getD h 2 0)) at && headsRight k (least (getD h 0 0)) (at + getD h 3 0) (drop 4 h) stop)
 
 -- the three parts of the first head's test
 pub record HeadRight (k low at : ℕ) (h : List ℕ) (stop : ℕ) : Type 0 where

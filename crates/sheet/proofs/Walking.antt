@@ -14,13 +14,10 @@ use Rattle.format.specs.Bytes.{if_then_else_, all, bytes, part}
 use Rattle.format.specs.Sheet.{Entry, cut, bodyAt, countIn, entriesIn, rightSheet, find, formed}
 use Rattle.format.proofs.Tests.{and-l, and-r}
 use Rattle.sheet.specs.declared.Head.{Head}
-use Rattle.sheet.specs.Heads.{HeadOf, least, Sought}
+use Rattle.sheet.specs.declared.Found.{Found}
+use Rattle.sheet.specs.Heads.{HeadOf, least, headsRight, restIn, Standing, Seeking, Sought}
 use Rattle.sheet.specs.Scanning.{bodyIn, startOf}
-use Rattle.sheet.proofs.Heads.{headsRight, HeadRight, head-right, right-end, header-right, right-body, rises, cut-rises}
-
--- the entries from entry i on
-abbrev pub restIn : List ℕ → ℕ → ℕ → List Entry
-restIn s i at = cut (countIn s - i) (drop (bodyAt i) s) (drop at s)
+use Rattle.sheet.proofs.Heads.{HeadRight, head-right, right-end, header-right, right-body, rises, cut-rises}
 
 one-fewer : (k i : ℕ) → i < k → k - i ≡ suc (k - (i + 1))
 one-fewer k i h = omega arith
@@ -63,11 +60,6 @@ checking-end s at low i c e =
     sym (ap (λ (k : ℕ). headsRight k low at (drop (bodyAt i) s) (length s)) z) ∙ c .rest
 
 -- ---- a right sheet: its entries come one after the other
-
-pub record Standing (s : List ℕ) (i at : ℕ) : Type 0 where
-  pub low : ℕ
-  pub counted : i ≤ countIn s
-  pub right : headsRight (countIn s - i) low at (drop (bodyAt i) s) (length s) ≡ true
 
 pub standing-start : (s : List ℕ) → bytes s ≡ true → rightSheet s ≡ true → Standing s 0 (bodyIn s)
 standing-start s y e =
@@ -144,11 +136,6 @@ forming-all s i at c e = sym (ap (all formed) (rest-none s i at e)) ∙ c .rest
 
 -- ---- the search: the entries passed have smaller numbers
 
-pub record Seeking (n : ℕ) (s : List ℕ) (i at : ℕ) : Type 0 where
-  pub stands : Standing s i at
-  pub start : startOf n at (restIn s i at) ≡ startOf n (bodyIn s) (entriesIn s)
-  pub found : find n (restIn s i at) ≡ find n (entriesIn s)
-
 pub least-above : (n m : ℕ) → n < m → n < least m
 unfolding least
 least-above n m h = go (eqb m 255) refl
@@ -168,47 +155,68 @@ find-above n low (x ∷ es) l e =
 
 pub seeking-start : (n : ℕ) (s : List ℕ) → bytes s ≡ true → rightSheet s ≡ true → Seeking n s 0 (bodyIn s)
 seeking-start n s y e =
-    record { stands = standing-start s y e; start = ap (startOf n (bodyIn s)) (entries-rest s); found = ap (find n) (entries-rest s) }
+    record {
+      stands = standing-start s y e;
+      start = λ m h. ap (startOf m (bodyIn s)) (entries-rest s);
+      found = λ m h. ap (find m) (entries-rest s);
+    }
+
+-- where a search stopped, one for a larger number may go on
+pub sought-on : (s : List ℕ) (n m : ℕ) (f : Found) → Sought s n f → n ≤ m → Seeking m s (f .index) (f .at)
+sought-on s n m f c l =
+    let k = c .on in
+    record { stands = k .stands; start = λ p h. k .start p (omega arith); found = λ p h. k .found p (omega arith) }
 
 module _ (n : ℕ) (s : List ℕ) (i at : ℕ) (r : Head) (c : Seeking n s i at) (more : i < countIn s) (h : HeadOf (drop (bodyAt i) s) r) where
   rest : List Entry
   rest = restIn s (i + 1) (at + r .len)
 
-  start-opened : (if ltb (r .number) n then startOf n (at + length (part at (r .len) s)) rest else at) ≡ startOf n (bodyIn s) (entriesIn s)
+  start-opened : (m : ℕ) → n ≤ m
+      → (if ltb (r .number) m then startOf m (at + length (part at (r .len) s)) rest else at) ≡ startOf m (bodyIn s) (entriesIn s)
   unfolding startOf rest
-  start-opened = sym (ap (startOf n at) (entry-first s i at r (c .stands) more h)) ∙ c .start
+  start-opened m l = sym (ap (startOf m at) (entry-first s i at r (c .stands) more h)) ∙ c .start m l
 
-  found-opened : (if eqb (r .number) n then part at (r .len) s else find n rest) ≡ find n (entriesIn s)
+  found-opened : (m : ℕ) → n ≤ m → (if eqb (r .number) m then part at (r .len) s else find m rest) ≡ find m (entriesIn s)
   unfolding find rest
-  found-opened = sym (ap (find n) (entry-first s i at r (c .stands) more h)) ∙ c .found
+  found-opened m l = sym (ap (find m) (entry-first s i at r (c .stands) more h)) ∙ c .found m l
 
   pub seeking-on : r .number < n → Seeking n s (i + 1) (at + r .len)
   unfolding rest
   seeking-on l =
       record {
         stands = standing-on s i at r (c .stands) more h;
-        start = rw (lt-ltb (r .number) n l, entry-length s i at r (c .stands) more h) at start-opened;
-        found = rw (ne-eqb (r .number) n (omega arith)) at found-opened;
+        start = λ m k. rw (lt-ltb (r .number) m (omega arith), entry-length s i at r (c .stands) more h) at (start-opened m k);
+        found = λ m k. rw (ne-eqb (r .number) m (omega arith)) at (found-opened m k);
       }
 
-  pub seeking-found : r .number ≡ n → Sought s n (record { at = at; len = r .len })
+  -- the search stops at this entry
+  here : n ≤ r .number → at ≡ startOf n (bodyIn s) (entriesIn s)
+  here l = rw (le-ltb (r .number) n l) at (start-opened n (omega arith))
+
+  pub seeking-found : r .number ≡ n → Sought s n (record { index = i; at = at; len = r .len })
   seeking-found e =
       record {
-        start-is = rw (le-ltb (r .number) n (omega arith)) at start-opened;
-        length-is = sym (entry-length s i at r (c .stands) more h) ∙ ap length (rw (eq-eqb (r .number) n e) at found-opened);
+        start-is = here (omega arith);
+        length-is = sym (entry-length s i at r (c .stands) more h) ∙ ap length (rw (eq-eqb (r .number) n e) at (found-opened n (omega arith)));
+        on = c;
       }
 
-  pub seeking-past : n < r .number → Sought s n (record { at = at; len = 0 })
+  pub seeking-past : n < r .number → Sought s n (record { index = i; at = at; len = 0 })
   unfolding rest
   seeking-past l =
       let none : find n rest ≡ [] = find-above n (least (r .number)) rest (least-above n (r .number) l) (numbers-rise s i at r (c .stands) more h) in
       record {
-        start-is = rw (le-ltb (r .number) n (omega arith)) at start-opened;
-        length-is = ap length (sym none ∙ (rw (ne-eqb (r .number) n (omega arith)) at found-opened));
+        start-is = here (omega arith);
+        length-is = ap length (sym none ∙ (rw (ne-eqb (r .number) n (omega arith)) at (found-opened n (omega arith))));
+        on = c;
       }
 
-pub seeking-end : (n : ℕ) (s : List ℕ) (i at : ℕ) → Seeking n s i at → countIn s ≤ i → Sought s n (record { at = at; len = 0 })
+pub seeking-end : (n : ℕ) (s : List ℕ) (i at : ℕ) → Seeking n s i at → countIn s ≤ i → Sought s n (record { index = i; at = at; len = 0 })
 unfolding startOf find
 seeking-end n s i at c e =
     let none = rest-none s i at e in
-    record { start-is = sym (ap (startOf n at) none) ∙ c .start; length-is = ap length (sym (ap (find n) none) ∙ c .found) }
+    record {
+      start-is = sym (ap (startOf n at) none) ∙ c .start n (omega arith);
+      length-is = ap length (sym (ap (find n) none) ∙ c .found n (omega arith));
+      on = c;
+    }

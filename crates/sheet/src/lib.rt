@@ -6,8 +6,8 @@ ghost use Prim.Native.Nat.{_+_, _≤_};
 ghost use lib.ListN.{length, drop};
 ghost use Rattle.format.specs.Bytes.{all, word};
 ghost use Rattle.format.specs.Sheet.{bodyAt, countIn, entriesIn, rightSheet, formed};
-ghost use Rattle.sheet.specs.Heads.{RightOf, HeadOf, least, Sought};
-ghost use Rattle.sheet.specs.Scanning.{placeOf, placesIn, scanning, scanGiven};
+ghost use Rattle.sheet.specs.Heads.{RightOf, HeadOf, least, Seeking, Sought, placed};
+ghost use Rattle.sheet.specs.Scanning.{placesIn, scanning, scanGiven};
 
 // Where the bytes of each element stand in a sheet, {0, 0} where there is none; those of the carried blocks run from `carried` to the
 // sheet's end.
@@ -118,61 +118,79 @@ fn all_formed(sheet: &[u8], count: usize) -> bool
     true
 }
 
+// Where a search stopped: at entry `index`, whose bytes begin at `at`; `len` of them are what was sought.
+struct Found {
+    index: usize,
+    at: usize,
+    len: usize,
+}
+
 // Where the bytes of the entry with a number stand in a right sheet. Where there is none, it has no bytes, before those of the first
-// larger number.
-fn seek(sheet: &[u8], count: usize, number: u8) -> Part
-    requires { ⌜ RightOf (now sheet) count ⌝ }
+// larger number. It goes on from where the search for a smaller number stopped, so that all searches together pass each entry once.
+fn seek(sheet: &[u8], count: usize, from: Found, number: u8) -> Found
+    requires { ⌜ RightOf (now sheet) count × Seeking number (now sheet) (from .index) (from .at) ⌝ }
     ensures { λ r. ⌜ Sought (now (sheet .entry)) number r ⌝ }
 {
-    let mut at = 2 + 4 * count;
-    let mut i: usize = 0;
-    while i < count {
-        let head = head_at(sheet, i);
+    let mut index = from.index;
+    let mut at = from.at;
+    while index < count {
+        let head = head_at(sheet, index);
         if number < head.number {
-            return Part { at, len: 0 };
+            return Found { index, at, len: 0 };
         }
         if number == head.number {
-            return Part { at, len: head.len };
+            return Found {
+                index,
+                at,
+                len: head.len,
+            };
         }
         at += head.len;
-        i += 1;
+        index += 1;
     }
-    Part { at, len: 0 }
+    Found { index, at, len: 0 }
 }
 
-// Where the bytes of the entry with a number stand in a right sheet, {0, 0} where there are none.
-fn place_of(sheet: &[u8], count: usize, number: u8) -> Part
-    requires { ⌜ RightOf (now sheet) count ⌝ }
-    ensures { λ r. ⌜ r ≡ placeOf (now (sheet .entry)) number ⌝ }
+// The place of what was found, {0, 0} where that has no bytes.
+fn place_of(found: Found) -> Part
+    ensures { λ r. ⌜ r ≡ placed found ⌝ }
 {
-    let part = seek(sheet, count, number);
-    if part.len == 0 {
+    if found.len == 0 {
         return Part { at: 0, len: 0 };
     }
-    part
+    Part {
+        at: found.at,
+        len: found.len,
+    }
 }
 
-// Where each element stands in a right sheet.
+// Where each element stands in a right sheet: the numbers are sought as they rise.
 fn places_in(sheet: &[u8], count: usize) -> Places
     requires { ⌜ RightOf (now sheet) count ⌝ }
     ensures { λ r. ⌜ r ≡ placesIn (now (sheet .entry)) ⌝ }
 {
-    let item = place_of(sheet, count, 1);
-    let isil = place_of(sheet, count, 3);
-    let set = place_of(sheet, count, 4);
-    let usage = place_of(sheet, count, 5);
-    let media = place_of(sheet, count, 19);
-    let second = place_of(sheet, count, 22);
-    let other = place_of(sheet, count, 23);
-    let blocks = seek(sheet, count, 255);
+    let at = 2 + 4 * count;
+    let start = Found {
+        index: 0,
+        at,
+        len: 0,
+    };
+    let item = seek(sheet, count, start, 1);
+    let isil = seek(sheet, count, item, 3);
+    let set = seek(sheet, count, isil, 4);
+    let usage = seek(sheet, count, set, 5);
+    let media = seek(sheet, count, usage, 19);
+    let second = seek(sheet, count, media, 22);
+    let other = seek(sheet, count, second, 23);
+    let blocks = seek(sheet, count, other, 255);
     Places {
-        item,
-        isil,
-        set,
-        usage,
-        media,
-        second,
-        other,
+        item: place_of(item),
+        isil: place_of(isil),
+        set: place_of(set),
+        usage: place_of(usage),
+        media: place_of(media),
+        second: place_of(second),
+        other: place_of(other),
         carried: blocks.at,
     }
 }
