@@ -1,4 +1,5 @@
 pub mod Comparing
+pub mod Words
 pub mod Counting
 pub mod Storing
 pub mod Outcome

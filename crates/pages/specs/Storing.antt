@@ -1,7 +1,7 @@
 -- Storing an image on a tag, page by page: the last step of writing and editing. Document 01, "Numbers given back", 1 Size and 12 Locked,
 -- and the count of pages changed. The tests and the count are `format`'s. `p` is the page size.
-use Prim.Native.Nat.{ℕ, _*_, _%_}
-use mathlib.Core.Bool.{_&&_}
+use Prim.Native.Nat.{ℕ, _+_, _*_, _%_}
+use mathlib.Core.Bool.{Bool, not, _&&_}
 use mathlib.Core.List.{List, [], _∷_, _++_}
 use lib.ListN.{length, take, drop}
 use lib.Dec.{eqb}
@@ -36,3 +36,12 @@ storing p image t locks =
 -- the tag t with the image's page i in the place of its own
 abbrev pub withPage : ℕ → List ℕ → List ℕ → ℕ → List ℕ
 withPage p image t i = take (i * p) t ++ (part (i * p) p image ++ drop p (drop (i * p) t))
+
+-- a byte of the lock map leaves its page open
+abbrev pub isOpen : ℕ → Bool
+isOpen b = not (eqb b 1)
+
+-- bytes as one number, low byte first
+unfoldable pub asNumber : List ℕ → ℕ
+asNumber [] = 0
+asNumber (x ∷ s) = x + 256 * asNumber s

@@ -1,12 +1,12 @@
 // The pages of a tag: its size, its lock map, and storing an image on it page by page.
 ghost use mathlib.Core.Path.{_≡_};
 ghost use mathlib.Core.Bool.{not};
-ghost use Prim.Native.Nat.{_+_, _*_, _%_, _≤_};
+ghost use Prim.Native.Nat.{_+_, _*_, _%_, _≤_, _<_};
 ghost use lib.Dec.{eqb};
 ghost use lib.ListN.{length};
-ghost use Rattle.format.specs.Bytes.{same};
+ghost use Rattle.format.specs.Bytes.{all, same, part};
 ghost use Rattle.format.specs.Pages.{pageSize, goodSize, lockMap, differs, changed, lockedChanged};
-ghost use Rattle.pages.specs.Storing.{storedGiven, storing, withPage};
+ghost use Rattle.pages.specs.Storing.{isOpen, asNumber, storedGiven, storing, withPage};
 
 const PAGE: usize = 4;
 
@@ -40,21 +40,35 @@ pub fn good_locks(locks: &[u8], n: usize) -> bool
     true
 }
 
-// Are the two equally long, with the same bytes.
+// Are the two equally long, with the same bytes. The loop goes on past a difference: so the compiler compares many bytes at once.
 pub fn same(a: &[u8], b: &[u8]) -> bool
     ensures { λ r. ⌜ r ≡ same (now (a .entry)) (now (b .entry)) ⌝ }
 {
     if a.len() != b.len() {
         return false;
     }
+    let mut equal = true;
     let mut i = 0;
     while i < a.len() {
-        if a[i] != b[i] {
-            return false;
-        }
+        equal = equal & (a[i] == b[i]);
         i += 1;
     }
-    true
+    equal
+}
+
+// A byte as a wider number.
+fn wide(x: u8) -> u32
+    ensures { λ r. ⌜ (r ≡ x) × (r < 256) ⌝ }
+{
+    x as u32
+}
+
+// The bytes of the page at `at` as one number, low byte first: the compiler makes it one load.
+fn word(s: &[u8], at: usize) -> u32
+    requires { ⌜ at + pageSize ≤ length (now s) ⌝ }
+    ensures { λ r. ⌜ r ≡ asNumber (part at pageSize (now (s .entry))) ⌝ }
+{
+    wide(s[at]) + 256 * wide(s[at + 1]) + 65536 * wide(s[at + 2]) + 16777216 * wide(s[at + 3])
 }
 
 // Do the bytes of page i differ.
@@ -63,8 +77,7 @@ fn page_differs(tag: &[u8], image: &[u8], i: usize) -> bool
     ensures { λ r. ⌜ r ≡ differs pageSize (now (tag .entry)) (now (image .entry)) i ⌝ }
 {
     let at = i * PAGE;
-    let end = at + PAGE;
-    !same(&tag[at..end], &image[at..end])
+    word(tag, at) != word(image, at)
 }
 
 // Stores page i of the image on the tag, and leaves the tag's other pages as they are.
@@ -75,6 +88,19 @@ fn store_page(image: &[u8], tag: &mut [u8], i: usize)
     let at = i * PAGE;
     let end = at + PAGE;
     bytes::copy(&image[at..end], &mut tag[at..end]);
+}
+
+// Is some page locked. As in `same`, the loop goes to the end.
+fn any_locked(locks: &[u8]) -> bool
+    ensures { λ r. ⌜ r ≡ not (all isOpen (now (locks .entry))) ⌝ }
+{
+    let mut some = false;
+    let mut i = 0;
+    while i < locks.len() {
+        some = some | (locks[i] == 1);
+        i += 1;
+    }
+    some
 }
 
 // Would a locked page of the tag get other bytes. Pages that the lock map does not reach are open.
@@ -126,7 +152,8 @@ pub fn store(image: &[u8], tag: &mut [u8], locks: &[u8]) -> Stored
     if tag.len() % PAGE != 0 {
         return Stored::Refused(1);
     }
-    if locked_differs(image, tag, locks) {
+    // where no page is locked, the pages need not be compared twice
+    if any_locked(locks) && locked_differs(image, tag, locks) {
         return Stored::Refused(12);
     }
     let n = store_pages(image, tag);

@@ -1,17 +1,13 @@
 -- `pages::good_size` meets its contract: its tests are the definition's.
-use mathlib.Core.Path.{_≡_, refl, sym, ap, _∙_}
+use mathlib.Core.Path.{_≡_, sym, ap, _∙_}
 use mathlib.Core.Logic.{⊎-elim}
 use Prim.Native.Nat.{ℕ, _%_}
-use mathlib.Core.Bool.{Bool, true, false, _&&_}
+use mathlib.Core.Bool.{Bool, _&&_, and-assoc}
 use lib.Dec.{eqb, leb}
 use borrow.Author.Tests.{eq-eqb, ne-eqb}
 use Rattle.format.specs.Pages.{goodSize}
 use Rattle.pages.proofs.good_size.Statement.{statement}
 use Rattle.pages.proofs.good_size.Tie as tie
-
-and-assoc : (a b c : Bool) → (a && b) && c ≡ a && (b && c)
-and-assoc true b c = refl
-and-assoc false b c = refl
 
 -- t is what the tests before the last come to
 not-32 : (p n : ℕ) (t : Bool) → (n ≡ 32 → ⊥) → t ≡ eqb (n % p) 0 && leb 36 n → t && leb n 2048 ≡ goodSize p n

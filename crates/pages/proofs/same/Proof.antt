@@ -1,19 +1,19 @@
--- `pages::same` meets its contract. The loop's invariant: what is left of the two decides whether they are the same.
+-- `pages::same` meets its contract. The loop's invariant: what is left of the two decides, with the bytes before it, whether they are the same.
 use mathlib.Core.Path.{_≡_, refl, sym}
 use Prim.Native.Nat.{_-_, _≤_}
+use mathlib.Core.Bool.{_&&_}
 use lib.ListN.{length, drop}
 use borrow.Author.Needs.{needs}
-use borrow.Author.Tests.{eq-eqb, ne-eqb}
 use Rattle.format.specs.Bytes.{same}
-use Rattle.pages.proofs.Comparing.{same-other-length, same-passed, same-failed, same-ended}
+use Rattle.pages.proofs.Comparing.{same-other-length, same-turned, same-ended}
 use Rattle.pages.proofs.same.Statement.{statement}
 use Rattle.pages.proofs.same.Tie as tie
 
 abbrev Inv-loop : tie.InvT-loop
-Inv-loop a b i₀ i = (i ≤ length a) × (same (drop i a) (drop i b) ≡ same a b)
+Inv-loop a b equal₀ i₀ equal i = (i ≤ length a) × (equal && same (drop i a) (drop i b) ≡ same a b)
 
 abbrev μ-loop : tie.MeasureT-loop
-μ-loop a b i₀ i = length a - i
+μ-loop a b equal₀ i₀ equal i = length a - i
 
 returns : tie.Need-returns Inv-loop μ-loop
 returns c = sym (same-other-length _ _ (c .if1 .taken))
@@ -21,18 +21,11 @@ returns c = sym (same-other-length _ _ (c .if1 .taken))
 loop-holds : tie.Need-loop-holds Inv-loop μ-loop
 loop-holds c = (search needs, refl)
 
-shared-slice-read-if2 : tie.Need-shared-slice-read-if2 Inv-loop μ-loop
-shared-slice-read-if2 c = search needs
+shared-slice-read-equal : tie.Need-shared-slice-read-equal Inv-loop μ-loop
+shared-slice-read-equal c = search needs
 
-shared-slice-read-if2-2 : tie.Need-shared-slice-read-if2-2 Inv-loop μ-loop
-shared-slice-read-if2-2 c = search needs
-
-returns-2 : tie.Need-returns-2 Inv-loop μ-loop
-returns-2 c =
-    let args = c .before .before .before .before .before .before .args in
-    let l = c .before .before .before .before .loop in
-    same-failed (args .a .now) (args .b .now) (c .before .before .before .before .before .if1 .left) (l .i) _ (l .inv .1)
-    (c .before .before .before .loop-test .taken) (ne-eqb _ _ (c .if2 .taken))
+shared-slice-read-equal-2 : tie.Need-shared-slice-read-equal-2 Inv-loop μ-loop
+shared-slice-read-equal-2 c = search needs
 
 add-i : tie.Need-add-i Inv-loop μ-loop
 add-i c = search needs
@@ -42,18 +35,17 @@ loop-less c = search needs
 
 loop-again : tie.Need-loop-again Inv-loop μ-loop
 loop-again c =
-    let args = c .before .before .before .before .before .before .args in
-    let l = c .before .before .before .before .loop in (
+    let args = c .before .before .before .before .before .args in
+    let l = c .before .before .before .loop in (
       search needs,
-      same-passed (args .a .now) (args .b .now) (c .before .before .before .before .before .if1 .left) (l .i) _ (l .inv .1)
-          (c .before .before .before .loop-test .taken) (eq-eqb _ _ (c .if2 .left)),
+      same-turned (args .a .now) (args .b .now) (c .before .before .before .before .if1 .left) (l .i) (l .equal) _ (l .inv .1) (c .before .before .loop-test .taken),
     )
 
-returns-3 : tie.Need-returns-3 Inv-loop μ-loop
-returns-3 c =
+returns-2 : tie.Need-returns-2 Inv-loop μ-loop
+returns-2 c =
     let args = c .before .before .before .args in
     let l = c .before .loop in
-    same-ended (args .a .now) (args .b .now) (c .before .before .if1 .left) (l .i) _ (l .inv .1) (c .loop-test .left)
+    same-ended (args .a .now) (args .b .now) (c .before .before .if1 .left) (l .i) (l .equal) _ (l .inv .1) (c .loop-test .left)
 
 pub same-spec : {M : Type 1} → statement M
 same-spec =
@@ -63,10 +55,9 @@ same-spec =
     μ-loop
     returns
     loop-holds
-    shared-slice-read-if2
-    shared-slice-read-if2-2
-    returns-2
+    shared-slice-read-equal
+    shared-slice-read-equal-2
     add-i
     loop-less
     loop-again
-    returns-3)
+    returns-2)
