@@ -1,5 +1,5 @@
 # shellcheck shell=sh disable=SC2034,SC2154
-# The comparison with the independent program, for tests/library and bench/run, after examples/cc.sh and c_setup.
+# The comparison with the independent program, for tests/driver.sh and bench/run, after examples/cc.sh and c_setup.
 
 # driver_compile OBJECT FLAGS..: the C driver
 driver_compile() {

@@ -1,13 +1,15 @@
 /* Runs a library with the interface of urpanella.h on cases from standard input.
 
-   A case: the call (1 read, 2 write, 3 edit), a byte of flags (bit k: buffer k, where it has no bytes, is passed as a
-   null pointer), the element number (4 bytes), the length of each buffer (4 bytes each), the bytes of each buffer.
-   Buffers come in the order of the call's parameters.
+   A case: the call (1 read, 2 write, 3 edit), a byte of flags (bit k below 4: buffer k, where it has no bytes, is
+   passed as a null pointer; bit 7: the side of the guard page), the element number (4 bytes), the length of each
+   buffer (4 bytes each), the bytes of each buffer. Buffers come in the order of the call's parameters.
 
-   An outcome: the answer (4 bytes), then each result and each buffer as it is afterwards, with the canary bytes that
-   stand before it. Numbers are low byte first. A result is preset, so that one left alone is seen.
+   An outcome: the answer (4 bytes), then each result and each buffer as it is afterwards, after the canary bytes that
+   stand beside it. Numbers are low byte first. A result is preset, so that one left alone is seen.
 
-   Every buffer and every result ends where a page begins that nobody may touch, so a step too far stops the driver.
+   Every buffer and every result ends where a page begins that nobody may touch, or with bit 7 begins where such a page
+   ends, so a step too far stops the driver. Canary bytes are on the other side. A call that does not return is stopped
+   by the clock.
 
    Build: cc -I include tests/driver/driver.c LIBRARY -o driver
    Where a compiler has no headers at all: add -DURP_NO_LIBC_HEADERS and -I tests/driver/bare. */
@@ -25,6 +27,7 @@ extern int mprotect(void *, size_t, int);
 extern long read(int, void *, size_t);
 extern long write(int, const void *, size_t);
 extern void _exit(int);
+extern unsigned alarm(unsigned);
 extern void *memcpy(void *, const void *, size_t);
 #else
 #define _DEFAULT_SOURCE
@@ -38,12 +41,18 @@ extern void *memcpy(void *, const void *, size_t);
 enum { READ = 1, WRITE = 2, EDIT = 3 };
 enum { MOST_BUFFERS = 4, MOST_RESULTS = 2, PLACES = MOST_BUFFERS + MOST_RESULTS };
 enum { CANARY = 32, PRESET = 0xA5 };
+enum { BEHIND_GUARD = 0x80 };
+
+/* What one call may take. Under an emulator it takes milliseconds. */
+#ifndef URP_SECONDS
+#define URP_SECONDS 20
+#endif
 
 /* Multiples of every page size in use. */
 #define ROOM ((size_t)1 << 20)
 #define GUARD ((size_t)1 << 16)
 
-static uint8_t *end_of[PLACES];
+static uint8_t *start_of[PLACES], *end_of[PLACES];
 
 static uint8_t input[1 << 16];
 static size_t input_used, input_length;
@@ -93,6 +102,7 @@ static int filled(void)
     long count;
     if (input_used < input_length)
         return 1;
+    alarm(0); /* whoever makes the cases may take long */
     count = read(0, input, sizeof input);
     if (count < 0)
         stop("driver: standard input cannot be read\n");
@@ -128,26 +138,34 @@ static void open_rooms(void)
 {
     int place;
     for (place = 0; place < PLACES; place++) {
-        uint8_t *room = mmap(NULL, ROOM + GUARD, PROT_READ | PROT_WRITE, MAP_PRIVATE | MAP_ANONYMOUS, -1, 0);
-        if ((void *)room == MAP_FAILED || mprotect(room + ROOM, GUARD, PROT_NONE) != 0)
+        uint8_t *all = mmap(NULL, GUARD + ROOM + GUARD, PROT_NONE, MAP_PRIVATE | MAP_ANONYMOUS, -1, 0);
+        if ((void *)all == MAP_FAILED || mprotect(all + GUARD, ROOM, PROT_READ | PROT_WRITE) != 0)
             stop("driver: no memory for the buffers\n");
-        end_of[place] = room + ROOM;
+        start_of[place] = all + GUARD;
+        end_of[place] = all + GUARD + ROOM;
     }
 }
 
-/* The start of so many bytes that end at the guard, with fresh canary bytes before them. */
-static uint8_t *placed(int place, size_t length)
+/* Where the canary bytes of so many bytes stand. */
+static uint8_t *beside(uint8_t *start, size_t length, uint8_t flags)
 {
-    uint8_t *start = end_of[place] - length;
+    return flags & BEHIND_GUARD ? start + length : start - CANARY;
+}
+
+/* The start of so many bytes at the guard, with fresh canary bytes beside them. */
+static uint8_t *placed(int place, size_t length, uint8_t flags)
+{
+    uint8_t *start = flags & BEHIND_GUARD ? start_of[place] : end_of[place] - length;
+    uint8_t *canary = beside(start, length, flags);
     int i;
-    for (i = 1; i <= CANARY; i++)
-        start[-i] = (uint8_t)(0xC3 ^ i);
+    for (i = 0; i < CANARY; i++)
+        canary[i] = (uint8_t)(0xC3 ^ (CANARY - i));
     return start;
 }
 
-static size_t *placed_result(int place)
+static size_t *placed_result(int place, uint8_t flags)
 {
-    uint8_t *start = placed(place, sizeof(size_t));
+    uint8_t *start = placed(place, sizeof(size_t), flags);
     size_t i;
     for (i = 0; i < sizeof(size_t); i++)
         start[i] = PRESET;
@@ -156,6 +174,7 @@ static size_t *placed_result(int place)
 
 struct work {
     uint8_t call;
+    uint8_t flags;
     uint32_t number;
     int buffers;
     int results;
@@ -167,10 +186,9 @@ struct work {
 
 static void take_work(struct work *w)
 {
-    uint8_t flags;
     int i;
     take(&w->call, 1);
-    take(&flags, 1);
+    take(&w->flags, 1);
     w->number = take_number();
     if (w->call < READ || w->call > EDIT)
         stop("driver: a call that does not exist\n");
@@ -182,18 +200,19 @@ static void take_work(struct work *w)
             stop("driver: a buffer too long\n");
     }
     for (i = 0; i < w->buffers; i++) {
-        w->start[i] = placed(i, w->length[i]);
+        w->start[i] = placed(i, w->length[i], w->flags);
         take(w->start[i], w->length[i]);
-        w->passed[i] = w->length[i] == 0 && (flags >> i & 1) != 0 ? NULL : w->start[i];
+        w->passed[i] = w->length[i] == 0 && (w->flags >> i & 1) != 0 ? NULL : w->start[i];
     }
     for (i = 0; i < w->results; i++)
-        w->result[i] = placed_result(MOST_BUFFERS + i);
+        w->result[i] = placed_result(MOST_BUFFERS + i, w->flags);
 }
 
 static uint32_t run(const struct work *w)
 {
     uint8_t *const *b = w->passed;
     const size_t *n = w->length;
+    alarm(URP_SECONDS);
     switch (w->call) {
     case READ:
         return urp_read(b[0], n[0], b[1], n[1], w->result[0]);
@@ -204,6 +223,13 @@ static uint32_t run(const struct work *w)
     }
 }
 
+/* Bytes that the call could have changed, after their canary. */
+static void give_part(const struct work *w, uint8_t *start, size_t length)
+{
+    give(beside(start, length, w->flags), CANARY);
+    give(start, length);
+}
+
 static void give_outcome(const struct work *w, uint32_t answer)
 {
     uint8_t b[4];
@@ -212,9 +238,9 @@ static void give_outcome(const struct work *w, uint32_t answer)
         b[i] = (uint8_t)(answer >> 8 * i);
     give(b, 4);
     for (i = 0; i < w->results; i++)
-        give((const uint8_t *)w->result[i] - CANARY, CANARY + sizeof(size_t));
+        give_part(w, (uint8_t *)w->result[i], sizeof(size_t));
     for (i = 0; i < w->buffers; i++)
-        give(w->start[i] - CANARY, CANARY + w->length[i]);
+        give_part(w, w->start[i], w->length[i]);
 }
 
 int main(void)

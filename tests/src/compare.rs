@@ -2,8 +2,10 @@
 
 pub mod arguments;
 pub mod case;
+pub mod changed_cases;
 pub mod edit_cases;
 pub mod engine;
+pub mod faults;
 pub mod history_cases;
 pub mod read_cases;
 pub mod report;
@@ -12,18 +14,21 @@ pub mod torn_cases;
 pub mod write_cases;
 
 use arguments::{Arguments, Subject};
-use engine::Cases;
+use engine::{boxed, shared, Cases};
 
 /// Does what the arguments ask for. The report in words, or one line that says what is wrong.
 pub fn run(arguments: &Arguments) -> Result<String, String> {
     let Arguments { subject, seed, count, program } = arguments;
-    let cases: Cases = match subject {
-        Subject::Read => Box::new(read_cases::all(*seed, *count).map(Ok)),
-        Subject::Write => Box::new(write_cases::all(*seed, *count).map(Ok)),
-        Subject::Edit => Box::new(edit_cases::all(*seed, *count).map(Ok)),
-        Subject::Histories => Box::new(history_cases::all(*seed, *count)),
-        Subject::Torn => Box::new(torn_cases::all(*seed, *count).map(Ok)),
-        Subject::Taglist => return taglist::compare(program, *seed, *count),
+    let (seed, count) = (*seed, *count);
+    let shares: Vec<Cases> = match subject {
+        Subject::Read => vec![boxed(read_cases::all(seed, count))],
+        Subject::Write => vec![boxed(write_cases::all(seed, count))],
+        Subject::Edit => vec![boxed(edit_cases::all(seed, count))],
+        Subject::Histories => vec![Box::new(history_cases::all(seed, count))],
+        Subject::Torn => shared(seed, count, torn_cases::all),
+        Subject::Changed => changed_cases::shares(seed, count),
+        Subject::Faults => return faults::compare(program, seed, count),
+        Subject::Taglist => return taglist::compare(program, seed, count),
     };
-    engine::compare(program, cases)?.judged(subject.name(), *seed, subject.to_be_met())
+    engine::compare(program, shares)?.judged(subject.name(), seed, subject.to_be_met())
 }

@@ -1,13 +1,15 @@
 //! The comparison sees what it is there to see, and bad arguments get one line.
 
 use independent::compare::arguments::{parse, Subject};
-use independent::compare::case::{Call, Case};
-use independent::compare::engine::collect;
-use independent::compare::{read_cases, run, taglist};
+use independent::compare::case::{Call, Case, Placing};
+use independent::compare::engine::{collect, shared};
+use independent::compare::{changed_cases, edit_cases, read_cases, run, taglist, torn_cases, write_cases};
 use independent::examples::b2;
 use independent::generate::locks;
-use independent::model::listing;
-use std::collections::BTreeSet;
+use independent::model::{chain, listing, pages};
+use independent::random::Random;
+use independent::trial::{is_loose, read};
+use std::collections::{BTreeMap, BTreeSet};
 
 fn words(line: &str) -> Vec<String> {
     line.split_whitespace().map(str::to_string).collect()
@@ -37,6 +39,8 @@ fn bad_arguments_get_one_clear_line() {
 fn a_program_that_stops_or_prints_otherwise_is_seen() {
     assert!(complaint("read 1 2 true").contains("the driver stopped"));
     assert!(complaint("edit 1 2 false").contains("the driver stopped"));
+    assert!(complaint("changed 1 2 true").contains("the driver stopped"));
+    assert!(complaint("faults 1 2 false").starts_with("faults, torn writes: compare: the driver stopped"));
     assert!(complaint("taglist 1 0 cat").contains("instead of \"elements 4"));
     assert!(complaint("taglist 1 0 echo elements 3").contains("prints \"elements 3\\n\""));
 }
@@ -86,7 +90,7 @@ fn every_changed_byte_of_an_outcome_is_named() {
         );
     }
     for name in ["pages", "old_used", "tag", "locks", "value", "old"] {
-        assert!(named.contains(&format!("bytesbefore{name}have")), "{named:?}");
+        assert!(named.contains(&format!("bytesbeside{name}have")), "{named:?}");
         assert!(named.contains(&format!("byteof{name}is")), "{named:?}");
     }
 }
@@ -98,18 +102,82 @@ fn outcomes_are_those_of_document_01() {
     assert_eq!(accepted.buffers[1][..85], b2().sheet);
     let refused = Call::read(b2().tag, vec![0; 84]).outcome();
     assert_eq!((refused.answer, &refused.results[..]), (2, &[0xA5A5_A5A5_A5A5_A5A5][..]));
-    let frame = Call::edit(vec![1, 2], vec![3], 0x0102_0304, vec![], vec![4]).frame(true);
-    assert_eq!(frame, [3, 255, 4, 3, 2, 1, 2, 0, 0, 0, 1, 0, 0, 0, 0, 0, 0, 0, 1, 0, 0, 0, 1, 2, 3, 4]);
+    let frame =
+        Call::edit(vec![1, 2], vec![3], 0x0102_0304, vec![], vec![4]).frame(Placing { null: true, behind_guard: true });
+    assert_eq!(frame, [3, 0x8F, 4, 3, 2, 1, 2, 0, 0, 0, 1, 0, 0, 0, 0, 0, 0, 0, 1, 0, 0, 0, 1, 2, 3, 4]);
 }
 
 #[test]
-fn fixed_cases_alone_meet_every_refusal_of_reading() {
-    let met: BTreeSet<u32> = read_cases::all(1, 0).map(|case| case.expected.answer).collect();
-    assert!(Subject::Read.to_be_met().iter().all(|number| met.contains(number)), "{met:?}");
+fn fixed_cases_alone_meet_every_refusal() {
+    let answers = |cases: &mut dyn Iterator<Item = Case>| cases.map(|case| case.expected.answer).collect();
+    let met: [(Subject, BTreeSet<u32>); 3] = [
+        (Subject::Read, answers(&mut read_cases::all(1, 0))),
+        (Subject::Write, answers(&mut write_cases::all(1, 0))),
+        (Subject::Edit, answers(&mut edit_cases::all(1, 0))),
+    ];
+    for (subject, met) in met {
+        assert!(
+            subject.to_be_met().iter().chain([&0]).all(|number| met.contains(number)),
+            "{} {met:?}",
+            subject.name()
+        );
+    }
     let listed: BTreeSet<String> =
         taglist::fixed().iter().map(|tag| listing(tag).lines().next().unwrap().to_string()).collect();
     for number in [1, 3, 4, 5, 6, 7] {
         assert!(listed.contains(&format!("refused {number}")), "{listed:?}");
     }
     assert!(listed.contains("elements 673"), "{listed:?}");
+}
+
+#[test]
+fn half_of_all_buffers_begin_behind_a_guard_and_half_of_the_empty_ones_are_null() {
+    let mut times: BTreeMap<(bool, bool), usize> = BTreeMap::new();
+    for placing in (0..256).map(Placing::of) {
+        *times.entry((placing.null, placing.behind_guard)).or_default() += 1;
+    }
+    assert!(times.len() == 4 && times.values().all(|times| (60..=68).contains(times)), "{times:?}");
+}
+
+#[test]
+fn shares_have_all_cases_and_none_twice() {
+    let calls = shared(1, 37, read_cases::random).into_iter().flatten().map(|case| case.unwrap().call.describe());
+    let calls: Vec<String> = calls.collect();
+    assert_eq!((calls.len(), calls.iter().collect::<BTreeSet<_>>().len()), (37, 37));
+}
+
+#[test]
+fn few_page_stores_are_torn_in_every_way_and_many_at_every_place() {
+    let cases: Vec<Case> = torn_cases::all(1, 200).collect();
+    let mut counts = BTreeSet::new();
+    for call in cases.chunk_by(|_, next| !next.group.starts_with("calls that store")) {
+        let torn: Vec<&Vec<u8>> = call
+            .iter()
+            .filter(|case| case.group.starts_with("torn tags read"))
+            .map(|case| &case.call.buffers[0])
+            .collect();
+        let (before, after) = (torn[0], torn[torn.len() - 1]);
+        let stored = pages::differing(before, after, pages::PAGE).len();
+        assert_eq!(
+            call[0].expected.results[0], stored as u64,
+            "the first tag is the one before, the last the one after"
+        );
+        assert_eq!(torn.len(), if stored <= 5 { 1 << stored } else { stored + 1 });
+        assert_eq!(torn.iter().collect::<BTreeSet<_>>().len(), torn.len(), "no torn tag comes twice");
+        counts.insert(stored);
+    }
+    assert!((1..=6).all(|stored| counts.contains(&stored)), "{counts:?}");
+}
+
+#[test]
+fn the_dozen_tags_read_and_are_of_all_kinds() {
+    let tags = changed_cases::dozen(&mut Random::new(1));
+    assert!(tags.len() == 12 && tags.iter().all(|tag| read(tag).is_ok()));
+    let lengths: BTreeSet<usize> = tags.iter().map(Vec::len).collect();
+    assert!([32, 36, 112, 256, 2048].iter().all(|length| lengths.contains(length)), "{lengths:?}");
+    let of_kind = |kind: &dyn Fn(&[u8]) -> bool| tags.iter().filter(|tag| kind(tag)).count();
+    let has_block =
+        |tag: &[u8], one: bool| chain::blocks(tag).unwrap().iter().any(|block| (chain::id(block) == 1) == one);
+    assert_eq!(of_kind(&|tag| is_loose(tag)), 5);
+    assert_eq!((of_kind(&|tag| has_block(tag, true)), of_kind(&|tag| has_block(tag, false))), (7, 8));
 }

@@ -63,6 +63,24 @@ fn edits_of_any_tag_meet_every_refusal_of_editing() {
 }
 
 #[test]
+fn random_bytes_get_as_far_as_they_should() {
+    let mut random = Random::new(28);
+    let (mut tags_met, mut entries_met, mut changed_met) = (BTreeSet::new(), BTreeSet::new(), BTreeSet::new());
+    for _ in 0..20_000 {
+        tags_met.insert(reading(&tags::checked(&mut random), &mut [0; 5000]).err().unwrap_or(0));
+        let written = |sheet: &[u8]| writing(sheet, &mut [0; 64], &locks::open(64)).err().unwrap_or(0);
+        entries_met.insert(written(&sheets::random_entries(&mut random)));
+        changed_met.insert(written(&sheets::mutated(&mut random, 64)));
+    }
+    assert!(
+        tags_met.is_disjoint(&BTreeSet::from([1, 3, 4])) && tags_met.is_superset(&BTreeSet::from([5, 6])),
+        "{tags_met:?}"
+    );
+    assert_eq!(entries_met.into_iter().collect::<Vec<_>>(), [0, 9, 10, 11]);
+    assert!(changed_met.is_superset(&BTreeSet::from([0, 8, 9, 11])), "{changed_met:?}");
+}
+
+#[test]
 fn lengths_are_permitted_or_not_as_they_should_be() {
     let mut random = Random::new(24);
     let lengths: BTreeSet<usize> = (0..400_000).map(|_| tags::length(&mut random)).collect();

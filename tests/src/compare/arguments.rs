@@ -1,10 +1,11 @@
 //! What the command line asks for.
 
 use crate::model::refusal::{
-    self, BLOCK, CHECK, CLASH, EDITING, LARGE, LOCKED, MISMATCH, OFFSET, READING, VALUE, WRITING,
+    self, BLOCK, CHECK, CLASH, CONTENT, EDITING, FIELD, LARGE, LOCKED, LOOSE, MISMATCH, OFFSET, READING, VALUE, WRITING,
 };
 
-pub const USAGE: &str = "usage: compare read|write|edit|histories|torn|taglist SEED COUNT PROGRAM [ARGUMENT ..]";
+pub const USAGE: &str =
+    "usage: compare read|write|edit|histories|torn|changed|faults|taglist SEED COUNT PROGRAM [ARGUMENT ..]";
 
 #[derive(Clone, Copy, PartialEq, Eq)]
 pub enum Subject {
@@ -13,6 +14,8 @@ pub enum Subject {
     Edit,
     Histories,
     Torn,
+    Changed,
+    Faults,
     Taglist,
 }
 
@@ -25,8 +28,16 @@ pub struct Arguments {
 }
 
 impl Subject {
-    const ALL: [Subject; 6] =
-        [Subject::Read, Subject::Write, Subject::Edit, Subject::Histories, Subject::Torn, Subject::Taglist];
+    const ALL: [Subject; 8] = [
+        Subject::Read,
+        Subject::Write,
+        Subject::Edit,
+        Subject::Histories,
+        Subject::Torn,
+        Subject::Changed,
+        Subject::Faults,
+        Subject::Taglist,
+    ];
 
     pub fn name(self) -> &'static str {
         match self {
@@ -35,6 +46,8 @@ impl Subject {
             Subject::Edit => "edit",
             Subject::Histories => "histories",
             Subject::Torn => "torn",
+            Subject::Changed => "changed",
+            Subject::Faults => "faults",
             Subject::Taglist => "taglist",
         }
     }
@@ -46,8 +59,10 @@ impl Subject {
             Subject::Write => &WRITING,
             Subject::Edit => &EDITING,
             Subject::Histories => &[refusal::ROOM, VALUE, CLASH, LARGE, LOCKED],
-            Subject::Torn => &[CHECK, BLOCK, MISMATCH],
-            Subject::Taglist => &[],
+            Subject::Torn => &[CHECK, BLOCK, MISMATCH, LOOSE, VALUE, CLASH, LARGE, LOCKED],
+            Subject::Changed => &[refusal::ROOM, CONTENT, CHECK, BLOCK, FIELD, MISMATCH, LOOSE, LOCKED],
+            // Its parts are judged each by itself.
+            Subject::Faults | Subject::Taglist => &[],
         };
         all.iter().copied().filter(|number| *number != OFFSET).collect()
     }

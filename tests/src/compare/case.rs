@@ -2,7 +2,7 @@
 
 use crate::model::{self, listing::capital_hex};
 
-/// The driver's canary bytes before each buffer and each result.
+/// How many canary bytes the driver has beside each buffer and each result.
 const CANARY: usize = 32;
 
 /// What a result holds before the call.
@@ -13,6 +13,29 @@ pub enum Kind {
     Read = 1,
     Write = 2,
     Edit = 3,
+}
+
+/// How the driver passes the buffers of a call.
+#[derive(Clone, Copy)]
+pub struct Placing {
+    /// Buffers without bytes are null pointers.
+    pub null: bool,
+    /// Buffers and results begin behind a guard page, instead of ending before one.
+    pub behind_guard: bool,
+}
+
+impl Placing {
+    /// One of the four, in an order that keeps no step with the order of the cases.
+    pub fn of(place: usize) -> Placing {
+        let mixed = (place as u32).wrapping_mul(0x9E37_79B1) >> 30;
+        Placing { null: mixed & 1 == 1, behind_guard: mixed & 2 == 2 }
+    }
+
+    fn flags(self) -> u8 {
+        let null = if self.null { 0x0F } else { 0 };
+        let behind_guard = if self.behind_guard { 0x80 } else { 0 };
+        null | behind_guard
+    }
 }
 
 /// A call with its buffers in the order of the C parameters.
@@ -86,14 +109,14 @@ impl Call {
         }
     }
 
-    /// The frame for the driver. Buffers without bytes are passed as null pointers where this is asked for.
-    pub fn frame(&self, null: bool) -> Vec<u8> {
-        let mut frame = vec![self.kind as u8, if null { 0xFF } else { 0 }];
+    /// The frame for the driver.
+    pub fn frame(&self, placing: Placing) -> Vec<u8> {
+        let mut frame = vec![self.kind as u8, placing.flags()];
         frame.extend(self.number.to_le_bytes());
         for buffer in &self.buffers {
             frame.extend((buffer.len() as u32).to_le_bytes());
         }
-        frame.extend(self.buffers.concat());
+        self.buffers.iter().for_each(|buffer| frame.extend(buffer));
         frame
     }
 
@@ -125,8 +148,8 @@ impl Call {
 }
 
 /// The canary bytes as the driver sets them.
-fn canary() -> impl Iterator<Item = u8> {
-    (1..=CANARY as u8).rev().map(|distance| 0xC3 ^ distance)
+fn canary() -> [u8; CANARY] {
+    std::array::from_fn(|place| 0xC3 ^ (CANARY - place) as u8)
 }
 
 impl Outcome {
@@ -178,8 +201,8 @@ fn part_difference(name: &str, right: &[u8], rest: &mut &[u8]) -> Option<String>
     let (before, behind) = rest.split_at(CANARY);
     let (got, behind) = behind.split_at(right.len());
     *rest = behind;
-    if !canary().eq(before.iter().copied()) {
-        return Some(format!("bytes before {name} have changed"));
+    if before != canary() {
+        return Some(format!("bytes beside {name} have changed"));
     }
     let place = right.iter().zip(got).position(|(right, got)| right != got)?;
     Some(format!("byte {place} of {name} is {:02X} instead of {:02X}", got[place], right[place]))

@@ -2,18 +2,34 @@
 
 use super::case::{Call, Case};
 use super::read_cases::everything;
+use super::taglist;
 use crate::build::Draft;
 use crate::examples;
 use crate::generate::{edits, locks, tags};
 use crate::model::element::SINGLE;
 use crate::model::layout::layout;
+use crate::model::pages;
 use crate::model::reading::content_of;
 use crate::random::Random;
 
+/// The fixed cases and so many random ones.
 pub fn all(seed: u64, count: usize) -> impl Iterator<Item = Case> + Send {
+    let fixed = numbers().chain(value_lengths()).chain(old_rooms()).chain(lengths()).chain(refused()).chain(locked());
+    fixed.chain(random(seed, count))
+}
+
+/// Random bytes, random bytes that pass 4, tags in the writer's own layout, and tags of any kind.
+pub fn random(seed: u64, count: usize) -> impl Iterator<Item = Case> + Send {
     let mut random = Random::new(seed);
-    let fixed = numbers().chain(value_lengths()).chain(old_rooms()).chain(lengths()).chain(changed_bytes());
-    fixed.chain((0..count).map(move |_| generated(&mut random)))
+    (0..count).map(move |_| {
+        let (group, tag) = match random.below(8) {
+            0 => ("random bytes as tags", tags::noise(&mut random)),
+            1 => ("random bytes as tags, past the CRC", tags::checked(&mut random)),
+            2 | 3 => ("generated tags", tags::any(&mut random)),
+            _ => ("tags in the writer's own layout", tags::own(&mut random)),
+        };
+        any_edit(&mut random, group, tag)
+    })
 }
 
 /// A tag with nearly every element, in the writer's own layout.
@@ -64,32 +80,36 @@ fn lengths() -> impl Iterator<Item = Case> + Send {
     (0..=2100).map(move |length| on_open("all lengths 0 to 2,100", bare[..length].to_vec(), 1, b"B1", 255))
 }
 
-/// Every change of one byte of three tags, with all checks repaired, before an edit of a short room.
-fn changed_bytes() -> impl Iterator<Item = Case> + Send {
-    let originals = [examples::b1().tag, examples::b2().tag, full_tag()];
-    originals.into_iter().flat_map(|tag| {
-        let places = 0..tag.len();
-        places.flat_map(move |place| {
-            let tag = tag.clone();
-            (1..=255u8).map(move |change| {
-                let mut changed = tag.clone();
-                changed[place] ^= change;
-                tags::repair(&mut changed);
-                let (room, value): (usize, &[u8]) =
-                    if change % 2 == 0 { (254, b"") } else { (255, b"0123456789ABCDEF") };
-                on_open("every change of one byte of 3 tags, checks repaired", changed, 1, value, room)
-            })
+/// Tags among which each refusal of a tag is met, and two loose ones.
+fn refused() -> impl Iterator<Item = Case> + Send {
+    let loose = [Draft::default().chain(&[&[1]]).tag(36), Draft::default().chain(&[&[0, 7]]).tag(40)];
+    let tags = taglist::fixed().into_iter().chain(loose);
+    tags.map(|tag| on_open("tags of each refusal", tag, 1, b"B1", 255))
+}
+
+/// Each page locked by itself, under an edit that changes most of them and one that changes few.
+fn locked() -> impl Iterator<Item = Case> + Send {
+    let edits: [(u32, &[u8]); 2] = [(1, b"new"), (22, b"")];
+    (0..full_tag().len() / pages::PAGE).flat_map(move |page| {
+        edits.into_iter().map(move |(number, value)| {
+            let tag = full_tag();
+            let mut map = locks::open(tag.len());
+            map[page] = 1;
+            Case::new("each page locked", Call::edit(tag, map, number, value.to_vec(), vec![0xEE; 255]))
         })
     })
 }
 
-/// An edit of a tag that is mostly in the writer's own layout.
-fn generated(random: &mut Random) -> Case {
-    let tag = if random.one_in(4) { tags::any(random) } else { tags::own(random) };
+/// An edit, random bytes among them, under any lock map.
+fn any_edit(random: &mut Random, group: &'static str, tag: Vec<u8>) -> Case {
     let content = content_of(&tag).unwrap_or_default();
-    let edit = if random.one_in(2) { edits::any(random, &content) } else { edits::modest(random, &content) };
+    let edit = match random.below(16) {
+        0 => edits::noise(random),
+        1..=7 => edits::any(random, &content),
+        _ => edits::modest(random, &content),
+    };
     let map = locks::any(random, tag.len(), 40);
     let old_room = edits::old_room(random, 25);
     let old = random.bytes(old_room);
-    Case::new("generated tags, lock maps and edits", Call::edit(tag, map, edit.number, edit.value, old))
+    Case::new(group, Call::edit(tag, map, edit.number, edit.value, old))
 }

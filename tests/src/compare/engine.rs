@@ -1,10 +1,11 @@
 //! Sends cases to the driver and compares what comes back, both at the same time.
 
-use super::case::Case;
+use super::case::{Case, Placing};
 use super::report::Report;
 use std::io::{BufReader, Read, Write};
 use std::process::{Child, Command, Stdio};
 use std::sync::mpsc::{sync_channel, SyncSender};
+use std::sync::Mutex;
 use std::thread;
 
 /// Cases that go to the driver in one piece.
@@ -13,11 +14,56 @@ const BATCH: usize = 256;
 /// Batches that may wait for their outcomes.
 const WAITING: usize = 8;
 
+/// Shares of a generator's cases. The number is fixed, so that a seed gives the same cases on every machine.
+const SHARES: usize = 16;
+
 /// Cases one after another, or a line that ends the run.
 pub type Cases = Box<dyn Iterator<Item = Result<Case, String>> + Send>;
 
+/// The cases of a generator, which takes a seed and a count, in shares.
+pub fn shared<C>(seed: u64, count: usize, cases: impl Fn(u64, usize) -> C) -> Vec<Cases>
+where
+    C: Iterator<Item = Case> + Send + 'static,
+{
+    let part = |share: usize| count / SHARES + usize::from(share < count % SHARES);
+    (0..SHARES).map(|share| boxed(cases(seed.wrapping_add(share as u64), part(share)))).collect()
+}
+
+/// Cases of which none ends the run.
+pub fn boxed(cases: impl Iterator<Item = Case> + Send + 'static) -> Cases {
+    Box::new(cases.map(Ok))
+}
+
+/// Compares shares of cases side by side, each with a driver of its own, as many as there are cores.
+pub fn compare(command: &[String], shares: Vec<Cases>) -> Result<Report, String> {
+    let workers = thread::available_parallelism().map_or(1, usize::from).min(shares.len());
+    let waiting = Mutex::new(shares.into_iter().enumerate());
+    let next = || waiting.lock().expect("nobody fails while holding the shares").next();
+    let work = || -> Result<Vec<(usize, Report)>, String> {
+        let mut done = Vec::new();
+        while let Some((share, cases)) = next() {
+            let report = compare_share(command, cases);
+            if report.as_ref().map_or(true, Report::differs) {
+                // Nobody takes another share.
+                while next().is_some() {}
+            }
+            done.push((share, report?));
+        }
+        Ok(done)
+    };
+    let done: Vec<_> = thread::scope(|scope| {
+        let workers: Vec<_> = (0..workers).map(|_| scope.spawn(work)).collect();
+        workers.into_iter().map(|worker| worker.join().expect("a worker gives reports or a line")).collect()
+    });
+    let mut reports = done.into_iter().collect::<Result<Vec<_>, _>>()?.concat();
+    reports.sort_by_key(|(share, _)| *share);
+    let mut sum = Report::default();
+    reports.into_iter().for_each(|(_, report)| sum.add(report));
+    Ok(sum)
+}
+
 /// Compares every outcome of the driver with the right one.
-pub fn compare(command: &[String], cases: Cases) -> Result<Report, String> {
+fn compare_share(command: &[String], cases: Cases) -> Result<Report, String> {
     let mut driver = start(command)?;
     let input = driver.stdin.take().expect("a pipe was asked for");
     let output = BufReader::with_capacity(1 << 16, driver.stdout.take().expect("a pipe was asked for"));
@@ -45,7 +91,7 @@ pub fn start(command: &[String]) -> Result<Child, String> {
 /// A driver that is asked one call at a time.
 pub struct Link {
     driver: Child,
-    calls: u64,
+    calls: usize,
 }
 
 impl Link {
@@ -60,7 +106,8 @@ impl Link {
         let right = case.expected.frame();
         let mut got = vec![0; right.len()];
         self.calls += 1;
-        let asked = input.write_all(&case.call.frame(self.calls % 2 == 1)).and_then(|_| output.read_exact(&mut got));
+        let asked =
+            input.write_all(&case.call.frame(Placing::of(self.calls))).and_then(|_| output.read_exact(&mut got));
         match asked {
             Err(_) => Err(format!("the driver stopped at {}", case.call.describe())),
             Ok(()) if got != right => Err(format!("{} at {}", case.difference(&got), case.call.describe())),
@@ -81,8 +128,8 @@ impl Drop for Link {
 fn feed(mut cases: Cases, mut input: impl Write, sender: SyncSender<Vec<Case>>) -> Result<(), String> {
     loop {
         let batch: Vec<Case> = cases.by_ref().take(BATCH).collect::<Result<_, _>>()?;
-        let frames: Vec<u8> =
-            batch.iter().enumerate().flat_map(|(place, case)| case.call.frame(place % 2 == 1)).collect();
+        let mut frames = Vec::new();
+        batch.iter().enumerate().for_each(|(place, case)| frames.extend(case.call.frame(Placing::of(place))));
         if batch.is_empty() || sender.send(batch).is_err() || input.write_all(&frames).is_err() {
             return Ok(());
         }
@@ -92,13 +139,13 @@ fn feed(mut cases: Cases, mut input: impl Write, sender: SyncSender<Vec<Case>>) 
 /// Takes the outcomes in; an error names the case that the driver never answered.
 pub fn collect(batches: impl IntoIterator<Item = Vec<Case>>, mut output: impl Read) -> Result<Report, String> {
     let mut report = Report::default();
-    for case in batches.into_iter().flatten() {
+    for (place, case) in batches.into_iter().flat_map(|batch| batch.into_iter().enumerate()) {
         let right = case.expected.frame();
         let mut got = vec![0; right.len()];
         if output.read_exact(&mut got).is_err() {
             return Err(case.call.describe());
         }
-        report.count(&case);
+        report.count(&case, Placing::of(place));
         if got != right {
             report.note(&case, &got);
         }

@@ -1,20 +1,34 @@
 //! Cases of reading.
 
 use super::case::{Call, Case};
+use super::taglist;
 use crate::build::{self, Draft};
 use crate::examples;
 use crate::generate::tags;
-use crate::model::layout::layout;
 use crate::model::{element, reading, sheet, Content};
 use crate::random::Random;
 
-/// Longer than any sheet that a tag gives.
-const ENOUGH: usize = 5000;
-
+/// The fixed cases and so many random ones.
 pub fn all(seed: u64, count: usize) -> impl Iterator<Item = Case> + Send {
+    published().chain(refused()).chain(lengths()).chain(random(seed, count))
+}
+
+/// Random bytes, random bytes that pass 4, and tags of any kind.
+pub fn random(seed: u64, count: usize) -> impl Iterator<Item = Case> + Send {
     let mut random = Random::new(seed);
-    let mut again = Random::new(!seed);
-    published().chain(lengths()).chain(changed_bytes(&mut random)).chain((0..count).map(move |_| generated(&mut again)))
+    (0..count).map(move |_| {
+        let (group, tag) = match random.below(4) {
+            0 => ("random bytes as tags", tags::noise(&mut random)),
+            1 => ("random bytes as tags, past the CRC", tags::checked(&mut random)),
+            _ => ("generated tags", tags::any(&mut random)),
+        };
+        in_any_room(&mut random, group, tag)
+    })
+}
+
+/// At least as long as any sheet that a tag of this length gives: blocks of 3 bytes take 7 in a sheet.
+pub fn room_for(tag: &[u8]) -> usize {
+    3 * tag.len()
 }
 
 /// The length of the tag's sheet, where it reads.
@@ -33,6 +47,14 @@ fn published() -> impl Iterator<Item = Case> + Send {
     })
 }
 
+/// Tags among which each refusal of a tag is met.
+fn refused() -> impl Iterator<Item = Case> + Send {
+    taglist::fixed().into_iter().map(|tag| {
+        let room = room_for(&tag);
+        Case::new("tags of each refusal", Call::read(tag, vec![0xEE; room]))
+    })
+}
+
 /// Every length up to 2,100 of several patterns, the last of which read wherever the length is permitted.
 fn lengths() -> impl Iterator<Item = Case> + Send {
     let bare = Draft::default().tag(2100);
@@ -45,20 +67,6 @@ fn lengths() -> impl Iterator<Item = Case> + Send {
             Case::new("all lengths 0 to 2,100 of 7 patterns", call)
         })
     })
-}
-
-/// A dozen tags that read, with all kinds of elements, each changed at every byte to every value.
-fn changed_bytes(random: &mut Random) -> impl Iterator<Item = Case> + Send {
-    let mut originals: Vec<Vec<u8>> = examples::all().map(|example| example.tag).to_vec();
-    originals.push(layout(&everything(b"AB-1234567", 9), 112).expect("it fits"));
-    originals.push(layout(&everything(b"ABC-1234", 30), 112).expect("it fits"));
-    while originals.len() < 12 {
-        let tag = if originals.len().is_multiple_of(2) { tags::own(random) } else { tags::loose(random) };
-        if tag.len() <= 112 && sheet_length(&tag).is_some() {
-            originals.push(tag);
-        }
-    }
-    originals.into_iter().flat_map(changes_of)
 }
 
 /// All elements that can stand together, with an identifier of this length.
@@ -76,34 +84,17 @@ pub fn everything(isil: &[u8], identifier: usize) -> Content {
     content
 }
 
-/// Every change of one byte, as it is and with the checks repaired.
-fn changes_of(tag: Vec<u8>) -> impl Iterator<Item = Case> + Send {
-    let places = 0..tag.len();
-    places.flat_map(move |place| {
-        let tag = tag.clone();
-        (1..=255u8).flat_map(move |change| {
-            let mut changed = tag.clone();
-            changed[place] ^= change;
-            let mut repaired = changed.clone();
-            tags::repair(&mut repaired);
-            let group = "every change of one byte of 12 tags, checks as they are and repaired";
-            [changed, repaired].map(|tag| Case::new(group, Call::read(tag, vec![0xEE; 256])))
-        })
-    })
-}
-
-/// A tag of any kind, with a room that is exact, one short, larger, or anything.
-fn generated(random: &mut Random) -> Case {
-    let tag = tags::any(random);
+/// A room that is exact, one short, larger, or anything.
+fn in_any_room(random: &mut Random, group: &'static str, tag: Vec<u8>) -> Case {
     let room = match (sheet_length(&tag), random.below(6)) {
         (Some(length), 0) => length - 1,
         (Some(length), 1) => length + random.between(1, 40),
         (Some(length), 2) => random.below(length),
         (Some(length), _) => length,
         (None, 0) => 0,
-        (None, 1) => ENOUGH,
+        (None, 1) => room_for(&tag),
         (None, _) => random.below(200),
     };
     let buffer = random.bytes(room);
-    Case::new("generated tags", Call::read(tag, buffer))
+    Case::new(group, Call::read(tag, buffer))
 }

@@ -1,13 +1,15 @@
 //! What a run has tried and met.
 
-use super::case::Case;
+use super::case::{Case, Placing};
 use crate::model::refusal;
 use std::collections::BTreeMap;
 
-#[derive(Default)]
+#[derive(Clone, Default)]
 pub struct Report {
-    groups: Vec<(&'static str, u64)>,
-    answers: BTreeMap<u32, u64>,
+    pub groups: Vec<(&'static str, u64)>,
+    pub answers: BTreeMap<u32, u64>,
+    /// Cases whose buffers began behind a guard page. Those of the others ended before one.
+    pub behind_guard: u64,
     differing: u64,
     /// The shortest case that differs: its length and its line.
     shortest: Option<(usize, String)>,
@@ -15,12 +17,27 @@ pub struct Report {
 
 impl Report {
     /// Counts a case that has been answered.
-    pub fn count(&mut self, case: &Case) {
-        match self.groups.iter_mut().find(|(group, _)| *group == case.group) {
-            Some((_, times)) => *times += 1,
-            None => self.groups.push((case.group, 1)),
-        }
+    pub fn count(&mut self, case: &Case, placing: Placing) {
+        self.count_group(case.group, 1);
         *self.answers.entry(case.expected.answer).or_default() += 1;
+        self.behind_guard += u64::from(placing.behind_guard);
+    }
+
+    fn count_group(&mut self, group: &'static str, more: u64) {
+        match self.groups.iter_mut().find(|(known, _)| *known == group) {
+            Some((_, times)) => *times += more,
+            None => self.groups.push((group, more)),
+        }
+    }
+
+    /// Adds what another run has tried and met.
+    pub fn add(&mut self, other: Report) {
+        other.groups.iter().for_each(|(group, times)| self.count_group(group, *times));
+        other.answers.iter().for_each(|(answer, times)| *self.answers.entry(*answer).or_default() += times);
+        self.behind_guard += other.behind_guard;
+        self.differing += other.differing;
+        let shortest = [self.shortest.take(), other.shortest];
+        self.shortest = shortest.into_iter().flatten().min_by_key(|(length, _)| *length);
     }
 
     /// Notes a case whose outcome is another than the right one.
@@ -32,7 +49,11 @@ impl Report {
         }
     }
 
-    fn cases(&self) -> u64 {
+    pub fn differs(&self) -> bool {
+        self.differing > 0
+    }
+
+    pub fn cases(&self) -> u64 {
         self.answers.values().sum()
     }
 
@@ -51,11 +72,14 @@ impl Report {
         Ok(self.in_words(subject, seed))
     }
 
+    /// A line for each group of cases.
+    pub fn groups_in_words(&self) -> String {
+        self.groups.iter().map(|(group, times)| format!("  {times:>8}  {group}\n")).collect()
+    }
+
     fn in_words(&self, subject: &str, seed: u64) -> String {
         let mut words = format!("{subject}: {} cases from seed {seed}, all as the model says\n", self.cases());
-        for (group, times) in &self.groups {
-            words += &format!("  {times:>8}  {group}\n");
-        }
+        words += &self.groups_in_words();
         words += "  met:";
         for (number, times) in &self.answers {
             words += &match number {

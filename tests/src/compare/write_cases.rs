@@ -5,11 +5,27 @@ use crate::examples;
 use crate::generate::{locks, sheets, tags};
 use crate::model::{self, pages};
 use crate::random::Random;
+use crate::trial::sheet_with;
 
+/// The fixed cases and so many random ones.
 pub fn all(seed: u64, count: usize) -> impl Iterator<Item = Case> + Send {
+    let fixed = published().chain(short_sheets()).chain(changed_sheets()).chain(lengths()).chain(refused());
+    fixed.chain(random(seed, count))
+}
+
+/// Random bytes, random entries, sheets with random changes, and sheets of any kind.
+pub fn random(seed: u64, count: usize) -> impl Iterator<Item = Case> + Send {
     let mut random = Random::new(seed);
-    let fixed = published().chain(short_sheets()).chain(changed_sheets()).chain(lengths());
-    fixed.chain((0..count).map(move |_| generated(&mut random)))
+    (0..count).map(move |_| {
+        let length = if random.one_in(40) { tags::bad_length(&mut random) } else { tags::length(&mut random) };
+        let (group, sheet) = match random.below(8) {
+            0 => ("random bytes as sheets", sheets::noise(&mut random)),
+            1 => ("random entries under a right header", sheets::random_entries(&mut random)),
+            2 | 3 => ("whole sheets with random changes", sheets::mutated(&mut random, length)),
+            _ => ("generated sheets", sheets::any(&mut random, length)),
+        };
+        on_any_tag(&mut random, group, sheet, length)
+    })
 }
 
 /// The papers' sheets: on an empty tag, on the tag that is already so with all pages locked, with each page locked.
@@ -70,13 +86,25 @@ fn lengths() -> impl Iterator<Item = Case> + Send {
     })
 }
 
-/// Any sheet for a tag that is nearly so already, of another content, or nothing of the kind.
-fn generated(random: &mut Random) -> Case {
-    let length = if random.one_in(40) { tags::bad_length(random) } else { tags::length(random) };
-    let sheet = sheets::any(random, length);
+/// Elements that clash, and elements that have no layout.
+fn refused() -> impl Iterator<Item = Case> + Send {
+    let two_owners = sheet_with(&[(3, b"DK-1"), (23, b"\x02x")]);
+    let two_items = sheet_with(&[(1, &[b'7'; 17]), (22, b"x")]);
+    let long_item = sheet_with(&[(1, &[b'7'; 17])]);
+    let full_block = sheet_with(&[(22, &[b'7'; 251])]);
+    [two_owners, two_items, long_item, full_block].into_iter().flat_map(|sheet| {
+        [32, 36, 64, 2048].map(|length| {
+            let call = Call::write(sheet.clone(), vec![0xEE; length], locks::open(length));
+            Case::new("clashes and elements too long", call)
+        })
+    })
+}
+
+/// The sheet for a tag that is nearly so already, of another content, or nothing of the kind, under any lock map.
+fn on_any_tag(random: &mut Random, group: &'static str, sheet: Vec<u8>, length: usize) -> Case {
     let tag = old_tag(random, &sheet, length);
     let map = locks::any(random, length, 30);
-    Case::new("generated sheets, tags and lock maps", Call::write(sheet, tag, map))
+    Case::new(group, Call::write(sheet, tag, map))
 }
 
 fn old_tag(random: &mut Random, sheet: &[u8], length: usize) -> Vec<u8> {

@@ -32,6 +32,13 @@ pub fn any(random: &mut Random, content: &Content) -> Edit {
     Edit { number: u32::from(number), value }
 }
 
+/// Random bytes under a random number, one of the table's as often as not.
+pub fn noise(random: &mut Random) -> Edit {
+    let number = if random.one_in(2) { u32::from(values::single(random)) } else { random.number() as u32 };
+    let length = random.below(301);
+    Edit { number, value: random.bytes(length) }
+}
+
 fn strange_number(random: &mut Random) -> Edit {
     let number = match random.below(3) {
         0 => random.pick(&FAR),

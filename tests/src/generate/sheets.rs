@@ -198,6 +198,46 @@ fn change_byte(random: &mut Random, sheet: &mut [u8], among: usize) {
     };
 }
 
+/// Random bytes; one in twenty is long.
+pub fn noise(random: &mut Random) -> Vec<u8> {
+    let longest = if random.one_in(20) { 5000 } else { 120 };
+    let length = random.below(longest);
+    random.bytes(length)
+}
+
+/// Random numbers in order with random bytes, under a right header.
+pub fn random_entries(random: &mut Random) -> Vec<u8> {
+    let count = random.below(10);
+    let mut entries: Entries = (0..count)
+        .map(|_| {
+            let number = if random.one_in(4) { random.byte() } else { values::single(random) };
+            let length = random.pick(&[0, 1, 1, 2, 4, 8, 40]);
+            let value = if random.one_in(3) { random.bytes(length) } else { values::good(random, number, 40) };
+            (number, value)
+        })
+        .collect();
+    entries.sort_by_key(|(number, _)| *number);
+    entries.dedup_by_key(|(number, _)| *number);
+    encoded(&entries)
+}
+
+/// A whole sheet with one to four bytes changed, taken out or put in anywhere.
+pub fn mutated(random: &mut Random, tag_length: usize) -> Vec<u8> {
+    let mut sheet = whole(random, tag_length);
+    for _ in 0..random.between(1, 4) {
+        let place = random.below(sheet.len());
+        match random.below(8) {
+            0 => drop(sheet.remove(place)),
+            1 => sheet.insert(place, random.byte()),
+            _ => {
+                let among = sheet.len();
+                change_byte(random, &mut sheet, among);
+            }
+        }
+    }
+    sheet
+}
+
 /// A sheet of blocks of 255 bytes whose end lies about, and whose last offset perhaps lies, beyond 65,535.
 pub fn past_the_last_offset(random: &mut Random) -> Vec<u8> {
     let block = values::carried(random, 255);

@@ -264,6 +264,24 @@ pub fn repair(tag: &mut [u8]) {
     build::repair_crc(tag);
 }
 
+/// Random bytes, mostly as many as a tag can have.
+pub fn noise(random: &mut Random) -> Vec<u8> {
+    let length = if random.one_in(4) { random.below(2100) } else { length(random) };
+    random.bytes(length)
+}
+
+/// Random bytes that pass 1, 3 and 4, with the checksums of their blocks; half of them have no block.
+pub fn checked(random: &mut Random) -> Vec<u8> {
+    let length = length(random);
+    let mut tag = random.bytes(length);
+    tag[0] = tag[0] & 0xF0 | 1;
+    if random.one_in(2) {
+        tag.iter_mut().skip(chain::START).take(1).for_each(|end_mark| *end_mark = 0);
+    }
+    repair(&mut tag);
+    tag
+}
+
 /// A tag of any kind.
 pub fn any(random: &mut Random) -> Vec<u8> {
     let mut tag = match random.below(20) {
@@ -271,13 +289,7 @@ pub fn any(random: &mut Random) -> Vec<u8> {
         7..=10 => loose(random),
         11..=14 => mixed(random),
         15..=17 => mixed_chain(random),
-        18 => {
-            let length = length(random);
-            let mut tag = random.bytes(length);
-            tag[0] = tag[0] & 0xF0 | 1;
-            repair(&mut tag);
-            tag
-        }
+        18 => checked(random),
         _ => {
             let length = bad_length(random);
             let mut tag = own(random);
