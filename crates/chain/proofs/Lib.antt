@@ -2,4 +2,5 @@ pub mod Counted
 pub mod Chain
 pub mod Places
 pub mod Laws
+pub mod Piece
 pub mod Turns

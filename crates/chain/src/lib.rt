@@ -67,12 +67,14 @@ pub fn block_at<'a>(tag: &'a [u8], at: usize) -> &'a [u8]
 // What the chain holds, or that it is damaged.
 pub enum Survey {
     // `library` is where block 1 begins and `length` its length, both 0 where there is none; `count` is how many other
-    // blocks there are, and `size` how many bytes they have together.
+    // blocks there are, and `size` how many bytes they have together; `end` is the place behind the chain, where the 00 stands
+    // or the tag ends.
     Whole {
         library: usize,
         length: usize,
         count: usize,
         size: usize,
+        end: usize,
     },
     Damaged,
 }
@@ -167,6 +169,7 @@ pub fn survey_of(tag: &[u8]) -> Survey
             length,
             count,
             size,
+            end: at,
         }
     }
 }

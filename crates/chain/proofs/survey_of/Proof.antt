@@ -93,7 +93,7 @@ not-so d w e q = ap (λ (x : Bool). if x then Damaged else w) e ∙ q
 
 -- however the chain was left, the flag and the numbers say what is right
 left-rightly : (c : tie.Left-chain Inv-loop μ-loop Inv-chain μ-chain)
-    → (if c .chain-test .damaged then Damaged else Whole (c .before .chain .library) (c .before .chain .length) (c .before .chain .count) (c .before .chain .size))
+    → (if c .chain-test .damaged then Damaged else Whole (c .before .chain .library) (c .before .chain .length) (c .before .chain .count) (c .before .chain .size) (c .before .chain .at))
     ≡ surveyOf (c .before .before .before .args .tag .now)
 left-rightly c =
     let t : List ℕ = c .before .before .before .args .tag .now in
