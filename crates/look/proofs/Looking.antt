@@ -1,34 +1,40 @@
 -- Looking at a tag whose fields are good: whether they agree, where the owner stands, and what the tag holds; and the steps in order.
 use mathlib.Core.Path.{_≡_, refl, sym, ap, _∙_}
 use mathlib.Core.Logic.{inl, inr}
-use Prim.Native.Nat.{ℕ, _*_, _/_, _%_, _≤_, _<_}
+use Prim.Native.Nat.{ℕ, _+_, _*_, _/_, _%_, _≤_, _<_}
 use native.Mathlib.Omega.{arith}
 use mathlib.Core.Bool.{Bool, true, false, not, _&&_, _||_, Bool·beq}
 use mathlib.Core.List.{List, [], _∷_}
 use lib.ListN.{length, take, getD, length-append}
 use lib.Seq.{drop-cons}
 use lib.Dec.{eqb}
-use borrow.Author.Tests.{eq-eqb, ne-eqb, leb-true}
+use borrow.Author.Tests.{eqb-true, eqb-false, eq-eqb, ne-eqb, leb-true}
+use Rattle.format.specs.declared.Part.{Part}
 use Rattle.format.specs.Answers.{got, refused, plain, need, inOrder, passed}
-use Rattle.format.specs.Bytes.{if_then_else_, isEmpty, same, le16, part, upTo, past}
+use Rattle.format.specs.Bytes.{if_then_else_, isEmpty, same, le16, part, joined, upTo, past}
 use Rattle.format.specs.Pages.{pageSize, goodSize}
 use Rattle.format.specs.Crc.{crc, covered}
 use Rattle.format.specs.Fields.{hyphen, isilOf, isil, alternate, isOwner, marked, ownerSaid}
+use Rattle.format.specs.Chain.{otherBlocks}
 use Rattle.format.specs.Elements.{numbers, placeIn, place, el}
 use Rattle.format.specs.Reading.{mainUsage, itemIn, ownerIn, walked, blocksIn, libraryOn, goodFields, agree, ownerOn, contentIn, tagSteps}
+use Rattle.format.specs.Calls.{ownLayout}
 use Rattle.format.specs.Slices.{Held}
-use Rattle.format.proofs.Tests.{and-iff, and-no}
+use Rattle.format.proofs.Tests.{never, and-l, and-r, and-iff, and-no, not-t, not-f}
 use Rattle.format.proofs.Answers.{first-ok, first-no, next-ok, next-no, next-inv, none-ok, passed-ok, passed-no}
+use Rattle.format.proofs.Strings.{nil-of}
 use Rattle.format.proofs.Fields.{isil-whole}
 use Rattle.format.proofs.Layouts.{size-cases, size-most}
 use Rattle.format.proofs.Sound.{library-tests, agree-owner}
+use Rattle.chain.proofs.Laws.{Surveyed}
+use Rattle.chain.proofs.Piece.{OnePiece, in-one-piece, own-piece}
 use Rattle.look.specs.View.{Viewed, judged}
 use Rattle.look.specs.declared.View.{View}
 use Rattle.look.specs.declared.ItemPlace.{ItemPlace}
 use Rattle.look.specs.declared.OwnerPlace.{OwnerPlace}
 use Rattle.look.specs.declared.LibraryPlace.{LibraryPlace}
-use Rattle.look.specs.Looking.{Sized, Begun, partFrom, IsilFits, OwnerHeld, OwnerStands, LibraryStands, FieldsStand, Counted}
-use Rattle.look.proofs.Holding.{held-empty, held-first, held-none}
+use Rattle.look.specs.Looking.{Sized, Begun, partFrom, IsilFits, OwnerHeld, OwnerStands, LibraryStands, FieldsStand, Counted, Pieced, pieceBy}
+use Rattle.look.proofs.Holding.{held-empty, held-first, held-from, held-none}
 use Rattle.look.proofs.Finding.{owner-isil, owner-other}
 
 -- ---- 1, 3 and 4
@@ -187,6 +193,48 @@ module _ (t : List ℕ) (l : LibraryPlace) (f : LibraryStands t l) where
   pub usage-in-front : l .usage ≡ 0 → (mainUsage t * 16) ∷ [] ≡ el (contentIn t) 5
   usage-in-front h = sym (usage-by ∙ rw (eq-eqb (l .usage) 0 h) refl)
 
+-- ---- the carried blocks
+
+part-length : (at len : ℕ) → partFrom at len .len ≡ len
+unfolding partFrom
+part-length at len = refl
+
+module _ (t : List ℕ) (l n c z d : ℕ) (v : Surveyed t l n c z d) where
+  -- no bytes, where the tag is not the writer's own layout
+  no-piece : (ownLayout t ≡ true → ⊥) → Pieced t z (partFrom 0 0)
+  unfolding partFrom
+  no-piece h = record {
+    inside = omega arith;
+    is = λ e. sym (nil-of (joined (otherBlocks (blocksIn t))) (omega (arith, v .size, e)));
+    own = λ o. absurd (h o);
+  }
+
+  pub pieced : goodSize pageSize (length t) ≡ true → Pieced t z (pieceBy l n z d)
+  unfolding pieceBy
+  pieced g = go (not (eqb n 0) && not (eqb l 34)) refl (not (eqb (34 + n + z) d)) refl
+    where
+      one : ownLayout t ≡ true → OnePiece l n z d
+      one o = own-piece t l n c z d v pageSize g o
+
+      go : (x : Bool) → not (eqb n 0) && not (eqb l 34) ≡ x → (y : Bool) → not (eqb (34 + n + z) d) ≡ y
+          → Pieced t z (if x then partFrom 0 0 else if y then partFrom 0 0 else partFrom (34 + n) z)
+      go true ex y ey =
+          let some : eqb n 0 ≡ false = not-t (eqb n 0) (and-l (not (eqb n 0)) (not (eqb l 34)) ex) in
+          let away : eqb l 34 ≡ false = not-t (eqb l 34) (and-r (not (eqb n 0)) (not (eqb l 34)) ex) in
+          no-piece (λ o. eqb-false l 34 away (one o .first (eqb-false n 0 some)))
+      go false ex true ey = no-piece (λ o. eqb-false (34 + n + z) d (not-t (eqb (34 + n + z) d) ey) (one o .full))
+      go false ex false ey =
+          let p : OnePiece l n z d = record { first = λ h. first h (eqb l 34) refl; full = eqb-true (34 + n + z) d (not-f (eqb (34 + n + z) d) ey) } in
+          let h = held-from t (34 + n) z (joined (otherBlocks (blocksIn t))) (λ k. omega (arith, v .room)) (in-one-piece t l n c z d v p) in
+          record { inside = h .inside; is = λ e. h .is; own = λ o. part-length (34 + n) z }
+        where
+          first : (n ≡ 0 → ⊥) → (y : Bool) → eqb l 34 ≡ y → l ≡ 34
+          first h true e = eqb-true l 34 e
+          first h false e =
+              let b : not (eqb n 0) && not (eqb l 34) ≡ true = rw (ne-eqb n 0 h, e) in
+              let z : true ≡ false = sym b ∙ ex in
+              never (cc)
+
 -- ---- what the tag holds
 
 module _ (t : List ℕ) (i : ItemPlace) (o : OwnerPlace) (l : LibraryPlace) (f : FieldsStand t i o l) where
@@ -198,7 +246,8 @@ module _ (t : List ℕ) (i : ItemPlace) (o : OwnerPlace) (l : LibraryPlace) (f :
   second-stands true = held-none t
   second-stands false = f .library .item
 
-  pub viewed : (held : OwnerPlace) (usage count size : ℕ) → OwnerHeld t held (ownerOn t) → usage ∷ [] ≡ el (contentIn t) 5 → Counted t count size
+  pub viewed : (held : OwnerPlace) (usage count size : ℕ) (blocks : Part) → OwnerHeld t held (ownerOn t) → usage ∷ [] ≡ el (contentIn t) 5 → Counted t count size
+      → Pieced t size blocks
       → Viewed t (record {
         item = if i .marked then l .item else i .item;
         prefix = held .prefix;
@@ -211,9 +260,10 @@ module _ (t : List ℕ) (i : ItemPlace) (o : OwnerPlace) (l : LibraryPlace) (f :
         other = held .other;
         count = count;
         size = size;
+        blocks = blocks;
       })
   unfolding contentIn place placeIn numbers
-  viewed held usage count size h u n =
+  viewed held usage count size blocks h u n p =
       record {
         item = rw (f .item .marks) (first-stands (i .marked) refl);
         isil = h .isil;
@@ -227,6 +277,9 @@ module _ (t : List ℕ) (i : ItemPlace) (o : OwnerPlace) (l : LibraryPlace) (f :
         other = h .other;
         count = n .many;
         size = n .long;
+        blocks-inside = p .inside;
+        blocks = p .is;
+        own = p .own;
       }
 
 -- what a view tells of the ISIL is enough to lay it down

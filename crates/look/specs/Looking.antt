@@ -1,7 +1,7 @@
 -- Looking at a tag, stage by stage: what each stage's answer says of the tag t. Every rule is one of `format`'s.
 use mathlib.Core.Path.{_≡_}
 use Prim.Native.Nat.{ℕ, _+_, _%_, _≤_}
-use mathlib.Core.Bool.{true, false}
+use mathlib.Core.Bool.{true, false, not, _&&_}
 use mathlib.Core.List.{List, []}
 use lib.ListN.{length, getD}
 use lib.Dec.{eqb}
@@ -14,6 +14,7 @@ use Rattle.format.specs.Fields.{alternate, marked, goodItem, ownerSaid, goodOwn
 use Rattle.format.specs.Chain.{libraryBlock, otherBlocks, goodLibrary}
 use Rattle.format.specs.Elements.{el}
 use Rattle.format.specs.Reading.{itemIn, ownerIn, blocksIn, libraryOn, goodFields, contentIn}
+use Rattle.format.specs.Calls.{ownLayout}
 use Rattle.format.specs.Slices.{Held}
 use Rattle.look.specs.View.{isilAt, judged}
 use Rattle.look.specs.declared.Look.{Look}
@@ -133,6 +134,20 @@ FieldsSay t fields.Bad = goodFields t ≡ false
 pub record Counted (t : List ℕ) (count size : ℕ) : Type 0 where
   pub many : count ≡ length (otherBlocks (blocksIn t))
   pub long : size ≡ length (joined (otherBlocks (blocksIn t)))
+
+-- the part p is the carried blocks, one behind the other, where it is as long as they; in the writer's own layout it is
+pub record Pieced (t : List ℕ) (size : ℕ) (p : Part) : Type 0 where
+  pub inside : p .at + p .len ≤ length t
+  pub is : p .len ≡ size → part (p .at) (p .len) t ≡ joined (otherBlocks (blocksIn t))
+  pub own : ownLayout t ≡ true → p .len ≡ size
+
+-- that part by what a survey gives, the place and length of block 1, the size of the others, the chain's end: none, unless block 1 is
+-- the first block or there is none, and the chain has no filler
+unfoldable pub pieceBy : ℕ → ℕ → ℕ → ℕ → Part
+pieceBy library length size end =
+    if not (eqb length 0) && not (eqb library 34) then partFrom 0 0 else
+    if not (eqb (34 + length + size) end) then partFrom 0 0 else
+    partFrom (34 + length) size
 
 -- ---- an ISIL laid down
 

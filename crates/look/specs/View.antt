@@ -2,6 +2,7 @@
 use mathlib.Core.Path.{_≡_}
 use Prim.Native.Nat.{ℕ, _+_, _≤_}
 use mathlib.Core.List.{List, [], _∷_, _++_}
+use mathlib.Core.Bool.{true}
 use lib.ListN.{length}
 use lib.Dec.{eqb}
 use Rattle.format.specs.declared.Part.{Part}
@@ -11,6 +12,7 @@ use Rattle.format.specs.Pages.{pageSize, goodSize}
 use Rattle.format.specs.Fields.{hyphen}
 use Rattle.format.specs.Elements.{el, setBytes}
 use Rattle.format.specs.Reading.{contentIn, tagSteps}
+use Rattle.format.specs.Calls.{ownLayout}
 use Rattle.format.specs.Slices.{Held}
 use Rattle.look.specs.declared.View.{View}
 use Rattle.look.specs.declared.Look.{Look}
@@ -40,6 +42,10 @@ pub record Viewed (t : List ℕ) (v : View) : Type 0 where
   pub other : Held t (v .other) (el (contentIn t) 23)
   pub count : v .count ≡ length (contentIn t .carried)
   pub size : v .size ≡ length (joined (contentIn t .carried))
+  -- where `blocks` is as long as the carried blocks together, it is they, one behind the other; in the writer's own layout it is
+  pub blocks-inside : v .blocks .at + v .blocks .len ≤ length t
+  pub blocks : v .blocks .len ≡ v .size → part (v .blocks .at) (v .blocks .len) t ≡ joined (contentIn t .carried)
+  pub own : ownLayout t ≡ true → v .blocks .len ≡ v .size
 
 -- the steps 1, 3, 4, 5, 6 and 7 in order
 abbrev pub lookSteps : List ℕ → List Step

@@ -18,10 +18,11 @@ ghost use Rattle.format.specs.Slices.{Held};
 ghost use Rattle.format.specs.Reading.{blocksIn, agree, ownerOn, contentIn};
 ghost use Rattle.fields.specs.Forms.{ownerForm};
 ghost use Rattle.look.specs.View.{isilAt, Viewed, Looked};
-ghost use Rattle.look.specs.Looking.{Sized, lookNumber, BasicSays, basicNumber, partFrom, IsilFits, ItemSays, OwnerHeld, OwnerStands, OwnerSays, LibraryStands, LibrarySays, FieldsStand, FieldsSay, Counted, laidInFront};
+ghost use Rattle.look.specs.Looking.{Sized, lookNumber, BasicSays, basicNumber, partFrom, IsilFits, ItemSays, OwnerHeld, OwnerStands, OwnerSays, LibraryStands, LibrarySays, FieldsStand, FieldsSay, Counted, Pieced, pieceBy, laidInFront};
 
 // What a readable tag holds and where: parts of the tag that are elements in sheet form, none where a part has no bytes. The owner's
-// ISIL, where `prefix` is not 0, is that many bytes from byte 21, a hyphen, and the part `isil`; else the part alone.
+// ISIL, where `prefix` is not 0, is that many bytes from byte 21, a hyphen, and the part `isil`; else the part alone. There are `count`
+// carried blocks, of `size` bytes together; where `blocks` is as long, it is they in one piece, so that they need not be gathered.
 pub struct View {
     pub item: Part,
     pub prefix: usize,
@@ -34,6 +35,7 @@ pub struct View {
     pub other: Part,
     pub count: usize,
     pub size: usize,
+    pub blocks: Part,
 }
 
 // What looking at a tag finds: what it holds, or the number of the refusal.
@@ -336,8 +338,9 @@ fn view_of(
     library: LibraryPlace,
     count: usize,
     size: usize,
+    blocks: Part,
 ) -> View
-    requires { ⌜ FieldsStand (now tag) item owner library × (agree (now tag) ≡ true) × Counted (now tag) count size ⌝ }
+    requires { ⌜ FieldsStand (now tag) item owner library × (agree (now tag) ≡ true) × Counted (now tag) count size × Pieced (now tag) size blocks ⌝ }
     ensures { λ r. ⌜ Viewed (now (tag .entry)) r ⌝ }
 {
     let here = item.item;
@@ -362,7 +365,23 @@ fn view_of(
         other,
         count,
         size,
+        blocks,
     }
+}
+
+// Where the carried blocks stand in one piece, by what the survey gives: block 1 is the first, or there is none, and the chain has no
+// filler. Else a part of no bytes.
+fn one_piece(library: usize, length: usize, size: usize, end: usize) -> Part
+    requires { ⌜ length + size ≤ 2048 ⌝ }
+    ensures { λ r. ⌜ r ≡ pieceBy library length size end ⌝ }
+{
+    if length != 0 && library != 34 {
+        return part_of(0, 0);
+    }
+    if 34 + length + size != end {
+        return part_of(0, 0);
+    }
+    part_of(34 + length, size)
 }
 
 // The number of a refusal, 0 for none.
@@ -388,6 +407,7 @@ pub fn look_at(tag: &[u8]) -> Look
         length,
         count,
         size,
+        end,
     } = chain::survey_of(tag)
     else {
         return Look::Refused(5);
@@ -402,7 +422,8 @@ pub fn look_at(tag: &[u8]) -> Look
     if !agrees(tag, item, owner, fields) {
         return Look::Refused(7);
     }
-    Look::Seen(view_of(tag, item, owner, fields, count, size))
+    let blocks = one_piece(library, length, size, end);
+    Look::Seen(view_of(tag, item, owner, fields, count, size, blocks))
 }
 
 // The number of a refusal that looking gave, 0 for none.

@@ -1,13 +1,16 @@
 -- `look::look_at`: `begun`, `surveyed` and `standing` say what is known past each stage; the steps behind it go on with that.
-use mathlib.Core.Path.{sym, ap, _∙_, subst}
+use mathlib.Core.Path.{_≡_, sym, ap, _∙_, subst}
 use Prim.Native.Nat.{ℕ}
+use native.Mathlib.Omega.{arith}
+use mathlib.Core.Bool.{true}
 use borrow.Author.Needs.{needs}
 use borrow.Author.Tests.{not-true, not-false}
 use Rattle.format.specs.Answers.{refused, plain}
+use Rattle.format.specs.Reading.{agree}
 use Rattle.chain.proofs.Laws.{Surveyed, survey-whole, survey-damaged}
 use Rattle.look.specs.View.{seen, refuses}
 use Rattle.look.specs.Looking.{Begun, BasicSays, basicNumber, FieldsStand, FieldsSay}
-use Rattle.look.proofs.Looking.{size-passed, chain-refused, fields-refused, mismatch-refused, all-passed}
+use Rattle.look.proofs.Looking.{size-passed, chain-refused, fields-refused, mismatch-refused, all-passed, pieced}
 use Rattle.look.proofs.look_at.Statement.{statement}
 use Rattle.look.proofs.look_at.Tie as tie
 
@@ -16,8 +19,8 @@ begun : (c : tie.After-enum-told) → Begun (c .before .before .before .before .
 begun c = let t = c .before .before .before .before .args .tag .now in subst (BasicSays t) (c .enum-told .given .1) (c .before .before .basic-of .ensures)
 
 -- past 5
-surveyed : (c : tie.After-known-told) → let g = c .before .library .given .0 in Surveyed (c .before .before .before .before .before .before .before .before .args .tag .now) (g .0) (g .1 .0) (g .1 .1 .0) (g .1 .1 .1 .0)
-surveyed c = survey-whole _ _ _ _ _ (sym (c .before .before .before .survey-of .ensures) ∙ c .before .library .given .1)
+surveyed : (c : tie.After-known-told) → let g = c .before .library .given .0 in Surveyed (c .before .before .before .before .before .before .before .before .args .tag .now) (g .0) (g .1 .0) (g .1 .1 .0) (g .1 .1 .1 .0) (g .1 .1 .1 .1 .0)
+surveyed c = survey-whole _ _ _ _ _ _ (sym (c .before .before .before .survey-of .ensures) ∙ c .before .library .given .1)
 
 -- past 6
 standing : (c : tie.After-known-told2) → let g = c .before .item .given .0 in FieldsStand (c .before .before .before .before .before .before .before .before .before .before .before .before .args .tag .now) (g .0) (g .1 .0) (g .1 .1 .0)
@@ -79,14 +82,25 @@ returns-4 c =
     refuses
     (mismatch-refused _ (begun (c .before .before .before .before .before .before .before .before .before .before)) (surveyed (c .before .before .before .before .before .before) .walks) (standing (c .before .before) .good) (sym (c .before .agrees .ensures) ∙ not-true _ (c .if1 .taken)))
 
+-- what is known past 7
+agreed : (c : tie.Else1) → agree (c .before .before .before .before .before .before .before .before .before .before .before .before .before .before .args .tag .now) ≡ true
+agreed c = sym (c .before .agrees .ensures) ∙ not-false _ (c .if1 .left)
+
+one-piece-requires : tie.Need-one-piece-requires
+one-piece-requires c κs =
+    let t = c .before .before .before .before .before .before .before .before .before .before .before .before .before .before .args .tag .now in
+    omega (arith, surveyed (c .before .before .before .before .before .before) .room, size-passed t (begun (c .before .before .before .before .before .before .before .before .before .before) .size) .most)
+
 view-of-requires : tie.Need-view-of-requires
 view-of-requires c κs =
-    let v = surveyed (c .before .before .before .before .before .before) in (standing (c .before .before), sym (c .before .agrees .ensures) ∙ not-false _ (c .if1 .left), record { many = v .count; long = v .size })
+    let v = surveyed (c .before .before .before .before .before .before .before) in
+    let p = pieced _ _ _ _ _ _ v (begun (c .before .before .before .before .before .before .before .before .before .before .before) .size) in
+    (standing (c .before .before .before), agreed (c .before), record { many = v .count; long = v .size }, rw (c .one-piece .ensures) p)
 
 returns-5 : tie.Need-returns-5
 returns-5 c =
     seen
-    (all-passed _ (begun (c .before .before .before .before .before .before .before .before .before .before .before)) (surveyed (c .before .before .before .before .before .before .before) .walks) (standing (c .before .before .before) .good) (sym (c .before .before .agrees .ensures) ∙ not-false _ (c .before .if1 .left)))
+    (all-passed _ (begun (c .before .before .before .before .before .before .before .before .before .before .before .before)) (surveyed (c .before .before .before .before .before .before .before .before) .walks) (standing (c .before .before .before .before) .good) (agreed (c .before .before)))
     (c .view-of .ensures)
 
 pub look-at-spec : {M : Type 1} → statement M
@@ -108,5 +122,6 @@ look-at-spec =
     returns-3
     agrees-requires
     returns-4
+    one-piece-requires
     view-of-requires
     returns-5)

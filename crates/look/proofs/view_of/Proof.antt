@@ -19,17 +19,17 @@ owner-of-requires c κs = search needs
 usage-of-requires : tie.Need-usage-of-requires
 usage-of-requires c κs = search needs
 
-shared-slice-read-t18 : tie.Need-shared-slice-read-t18
-shared-slice-read-t18 c = search needs
+shared-slice-read-t19 : tie.Need-shared-slice-read-t19
+shared-slice-read-t19 c = search needs
 
-shared-slice-read-t20 : tie.Need-shared-slice-read-t20
-shared-slice-read-t20 c = search needs
+shared-slice-read-t21 : tie.Need-shared-slice-read-t21
+shared-slice-read-t21 c = search needs
 
 returns : tie.Need-returns
 returns c =
     let s = c .before .before .before .before .before .before .before .before .before .before .before .before .before in
     rw (c .before .before .before .before .before .before .before .either .ensures, c .before .before .before .before .before .before .either2 .ensures, c .before .before .before .before .before .before .before .before .part-of .ensures)
-    (viewed (s .args .tag .now) _ _ _ (s .pre .0) _ _ _ _ (c .before .before .before .before .before .owner-of .ensures) (c .before .before .usage-of .ensures) (s .pre .2))
+    (viewed (s .args .tag .now) _ _ _ (s .pre .0) _ _ _ _ _ (c .before .before .before .before .before .owner-of .ensures) (c .before .before .usage-of .ensures) (s .pre .2) (s .pre .3))
 
 pub view-of-spec : {M : Type 1} → statement M
 view-of-spec =
@@ -40,6 +40,6 @@ view-of-spec =
     either-requires-2
     owner-of-requires
     usage-of-requires
-    shared-slice-read-t18
-    shared-slice-read-t20
+    shared-slice-read-t19
+    shared-slice-read-t21
     returns)
