@@ -149,9 +149,11 @@ module _ (item isil set usage media second other : List ℕ) (v : Valued item is
 pub good-least : (n : ℕ) → goodSize pageSize n ≡ true → 32 ≤ n
 good-least n g = elim (size-cases pageSize n g) [ inl e ↦ omega arith | inr h ↦ omega arith ]
 
--- a scratch of 00, lent as long as the tag, is fit to be built on
-pub buildable : (n m : ℕ) (item owner set usage media second carried : List ℕ) → n ≤ m → 32 ≤ n → Placeable item owner set usage second
-    → fits n (owned item owner set usage media second carried) ≡ true → Buildable (take (n - 0) (zeros m)) item owner set usage media second carried
-buildable n m item owner set usage media second carried h least p f =
+-- a scratch of m bytes 00, lent as long as the tag, is fit to be built on
+pub drafted : (n m : ℕ) (item owner set usage media second carried : List ℕ) → n ≤ m → goodSize pageSize n ≡ true → Placeable item owner set usage second
+    → fits n (owned item owner set usage media second carried) ≡ true
+    → (length (take (n - 0) (zeros m)) ≡ n) × Buildable (take (n - 0) (zeros m)) item owner set usage media second carried
+drafted n m item owner set usage media second carried h g p f =
     let l = lent-length n m h in
-    record { blank = lent-blank n m h; size = omega arith; given = p; fit = ap (λ (k : ℕ). fits k (owned item owner set usage media second carried)) l ∙ f }
+    let least = good-least n g in
+    (l, record { blank = lent-blank n m h; size = omega arith; given = p; fit = ap (λ (k : ℕ). fits k (owned item owner set usage media second carried)) l ∙ f })

@@ -385,6 +385,21 @@ fn is_own_with(
     if !has_room(item, owner, set, usage, media, second, carried, n) {
         return false;
     }
+    // a short tag has a short draft: clearing a long one would cost more than all else
+    if n <= 256 {
+        let mut scratch = [0u8; 256];
+        return same_layout(
+            &mut scratch[0..n],
+            item,
+            owner,
+            set,
+            usage,
+            media,
+            second,
+            carried,
+            tag,
+        );
+    }
     let mut scratch = [0u8; 2048];
     same_layout(
         &mut scratch[0..n],
@@ -417,6 +432,22 @@ fn lay_with(
     let n = tag.len();
     if !has_room(item, owner, set, usage, media, second, carried, n) {
         return Laid::Refused(11);
+    }
+    // a short draft for a short tag, as in is_own_with
+    if n <= 256 {
+        let mut draft = [0u8; 256];
+        return store_layout(
+            &mut draft[0..n],
+            item,
+            owner,
+            set,
+            usage,
+            media,
+            second,
+            carried,
+            tag,
+            locks,
+        );
     }
     let mut draft = [0u8; 2048];
     store_layout(

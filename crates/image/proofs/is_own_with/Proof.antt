@@ -7,8 +7,7 @@ use borrow.Author.Needs.{needs}
 use Rattle.format.specs.Pages.{pageSize}
 use Rattle.format.proofs.Tests.{not-t, not-f}
 use Rattle.format.proofs.Layouts.{size-most}
-use Rattle.image.proofs.Drafts.{lent-length}
-use Rattle.image.proofs.Placing.{good-least, buildable}
+use Rattle.image.proofs.Placing.{good-least, drafted}
 use Rattle.image.proofs.is_own_with.Statement.{statement}
 use Rattle.image.proofs.is_own_with.Tie as tie
 
@@ -31,24 +30,40 @@ part-scratch-start : tie.Need-part-scratch-start
 part-scratch-start c = search needs
 
 part-scratch-end : tie.Need-part-scratch-end
-part-scratch-end c =
-    let c10 = c .before .before .before .before .before .before .before .before .before .before in
-    omega (arith, size-most pageSize (length (c10 .args .tag .now)) (c10 .pre .0))
+part-scratch-end c = search needs
 
 same-layout-requires : tie.Need-same-layout-requires
 same-layout-requires c κs =
     let c1 = c .before in
-    let c2 = c1 .before in
-    let c11 = c2 .before .before .before .before .before .before .before .before .before in
-    let a = c11 .args in
-    let n = length (a .tag .now) in
-    let g = c11 .pre .0 in (
-      lent-length n 2048 (size-most pageSize n g),
-      buildable n 2048 (a .item .now) (a .owner .now) (a .set .now) (a .usage .now) (a .media .now) (a .second .now) (a .carried .now) (size-most pageSize n g) (good-least n g) (c11 .pre .1) (sym (c2 .has-room .ensures) ∙ not-f _ (c1 .if1 .left)),
-    )
+    let c3 = c1 .before .before in
+    let c12 = c3 .before .before .before .before .before .before .before .before .before in
+    let a = c12 .args in
+    drafted (length (a .tag .now)) 256 (a .item .now) (a .owner .now) (a .set .now) (a .usage .now) (a .media .now) (a .second .now) (a .carried .now) (c1 .if2 .taken) (c12 .pre .0) (c12 .pre .1) (sym (c3 .has-room .ensures) ∙ not-f _ (c1 .before .if1 .left))
 
 returns-2 : tie.Need-returns-2
-returns-2 c = c .before .same-layout .ensures ∙ both _ _ _ true (c .before .before .before .before .has-room .ensures) (not-f _ (c .before .before .before .if1 .left))
+returns-2 c = let c4 = c .before .before .before .before in c .before .same-layout .ensures ∙ both _ _ _ true (c4 .before .has-room .ensures) (not-f _ (c4 .if1 .left))
+
+sub-same-layout-2 : tie.Need-sub-same-layout-2
+sub-same-layout-2 c = search needs
+
+part-scratch-start-2 : tie.Need-part-scratch-start-2
+part-scratch-start-2 c = search needs
+
+part-scratch-end-2 : tie.Need-part-scratch-end-2
+part-scratch-end-2 c =
+    let c11 = c .before .before .before .before .before .before .before .before .before .before .before in
+    omega (arith, size-most pageSize (length (c11 .args .tag .now)) (c11 .pre .0))
+
+same-layout-requires-2 : tie.Need-same-layout-requires-2
+same-layout-requires-2 c κs =
+    let c3 = c .before .before .before in
+    let c12 = c3 .before .before .before .before .before .before .before .before .before in
+    let a = c12 .args in
+    let n = length (a .tag .now) in
+    drafted n 2048 (a .item .now) (a .owner .now) (a .set .now) (a .usage .now) (a .media .now) (a .second .now) (a .carried .now) (size-most pageSize n (c12 .pre .0)) (c12 .pre .0) (c12 .pre .1) (sym (c3 .has-room .ensures) ∙ not-f _ (c .before .before .if1 .left))
+
+returns-3 : tie.Need-returns-3
+returns-3 c = let c4 = c .before .before .before .before in c .before .same-layout2 .ensures ∙ both _ _ _ true (c4 .before .has-room .ensures) (not-f _ (c4 .if1 .left))
 
 pub is-own-with-spec : {M : Type 1} → statement M
 is-own-with-spec =
@@ -60,4 +75,9 @@ is-own-with-spec =
     part-scratch-start
     part-scratch-end
     same-layout-requires
-    returns-2)
+    returns-2
+    sub-same-layout-2
+    part-scratch-start-2
+    part-scratch-end-2
+    same-layout-requires-2
+    returns-3)

@@ -7,8 +7,7 @@ use Rattle.format.specs.Pages.{pageSize}
 use Rattle.format.proofs.Tests.{not-t, not-f}
 use Rattle.format.proofs.Layouts.{size-most}
 use Rattle.image.specs.Laying.{owned}
-use Rattle.image.proofs.Drafts.{lent-length}
-use Rattle.image.proofs.Placing.{good-least, buildable}
+use Rattle.image.proofs.Placing.{good-least, drafted}
 use Rattle.image.proofs.Alike.{lays-large}
 use Rattle.image.proofs.lay_with.Statement.{statement}
 use Rattle.image.proofs.lay_with.Tie as tie
@@ -32,29 +31,48 @@ part-draft-start : tie.Need-part-draft-start
 part-draft-start c = search needs
 
 part-draft-end : tie.Need-part-draft-end
-part-draft-end c =
-    let c11 = c .before .before .before .before .before .before .before .before .before .before .before in
-    omega (arith, size-most pageSize (length (c11 .args .tag .now)) (c11 .pre .0))
+part-draft-end c = search needs
 
 store-layout-requires : tie.Need-store-layout-requires
 store-layout-requires c κs =
     let c2 = c .before .before in
-    let c3 = c2 .before in
-    let c13 = c3 .before .before .before .before .before .before .before .before .before .before in
-    let a = c13 .args in
-    let n = length (a .tag .now) in
-    let g = c13 .pre .0 in (
-      g,
-      lent-length n 2048 (size-most pageSize n g),
-      buildable n 2048 (a .item .now) (a .owner .now) (a .set .now) (a .usage .now) (a .media .now) (a .second .now) (a .carried .now) (size-most pageSize n g) (good-least n g) (c13 .pre .1) (sym (c3 .has-room .ensures) ∙ not-f _ (c2 .if1 .left)),
-      c13 .pre .2,
-    )
+    let c4 = c2 .before .before in
+    let c14 = c4 .before .before .before .before .before .before .before .before .before .before in
+    let a = c14 .args in
+    let d = drafted (length (a .tag .now)) 256 (a .item .now) (a .owner .now) (a .set .now) (a .usage .now) (a .media .now) (a .second .now) (a .carried .now) (c2 .if2 .taken) (c14 .pre .0) (c14 .pre .1) (sym (c4 .has-room .ensures) ∙ not-f _ (c2 .before .if1 .left)) in
+    (c14 .pre .0, d .0, d .1, c14 .pre .2)
 
 same-length : tie.Need-same-length
 same-length c = search needs
 
 returns-2 : tie.Need-returns-2
-returns-2 c = c .before .before .before .store-layout .ensures
+returns-2 c = search needs
+
+sub-store-layout-2 : tie.Need-sub-store-layout-2
+sub-store-layout-2 c = search needs
+
+part-draft-start-2 : tie.Need-part-draft-start-2
+part-draft-start-2 c = search needs
+
+part-draft-end-2 : tie.Need-part-draft-end-2
+part-draft-end-2 c =
+    let c12 = c .before .before .before .before .before .before .before .before .before .before .before .before in
+    omega (arith, size-most pageSize (length (c12 .args .tag .now)) (c12 .pre .0))
+
+store-layout-requires-2 : tie.Need-store-layout-requires-2
+store-layout-requires-2 c κs =
+    let c4 = c .before .before .before .before in
+    let c14 = c4 .before .before .before .before .before .before .before .before .before .before in
+    let a = c14 .args in
+    let n = length (a .tag .now) in
+    let d = drafted n 2048 (a .item .now) (a .owner .now) (a .set .now) (a .usage .now) (a .media .now) (a .second .now) (a .carried .now) (size-most pageSize n (c14 .pre .0)) (c14 .pre .0) (c14 .pre .1) (sym (c4 .has-room .ensures) ∙ not-f _ (c .before .before .before .if1 .left)) in
+    (c14 .pre .0, d .0, d .1, c14 .pre .2)
+
+same-length-2 : tie.Need-same-length-2
+same-length-2 c = search needs
+
+returns-3 : tie.Need-returns-3
+returns-3 c = search needs
 
 pub lay-with-spec : {M : Type 1} → statement M
 lay-with-spec =
@@ -67,4 +85,10 @@ lay-with-spec =
     part-draft-end
     store-layout-requires
     same-length
-    returns-2)
+    returns-2
+    sub-store-layout-2
+    part-draft-start-2
+    part-draft-end-2
+    store-layout-requires-2
+    same-length-2
+    returns-3)
