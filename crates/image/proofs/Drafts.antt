@@ -37,7 +37,7 @@ module _ (n m : ℕ) (h : n ≤ m) where
 
 -- ---- filled up with 00
 
-pub pad-full : (n : ℕ) (s : List ℕ) → length s ≡ n → pad n s ≡ s
+pad-full : (n : ℕ) (s : List ℕ) → length s ≡ n → pad n s ≡ s
 unfolding padWith
 pad-full n s e = let z : n - length s ≡ 0 = omega arith in ap (λ (m : ℕ). s ++ zeros m) z ∙ append-nil s
 
@@ -45,7 +45,7 @@ pub pad-nothing : (n : ℕ) → pad n [] ≡ zeros n
 unfolding padWith
 pad-nothing n = let z : n - 0 ≡ n = omega arith in ap (λ (m : ℕ). zeros m) z
 
-pub take-pad : (k n : ℕ) (s : List ℕ) → length s ≤ k → k ≤ n → take k (pad n s) ≡ pad k s
+take-pad : (k n : ℕ) (s : List ℕ) → length s ≤ k → k ≤ n → take k (pad n s) ≡ pad k s
 unfolding padWith
 take-pad k n s h l =
     let e : k ≡ length s + (k - length s) = omega arith in
@@ -133,7 +133,7 @@ module _ (at k : ℕ) (s d₀ d : List ℕ) (short : length s ≤ k) (inside : a
 -- ---- piece by piece
 
 -- a store behind a front
-pub set-behind : (p q : List ℕ) (at k b : ℕ) → length p ≡ at → set (p ++ q) (at + k) b ≡ p ++ set q k b
+set-behind : (p q : List ℕ) (at k b : ℕ) → length p ≡ at → set (p ++ q) (at + k) b ≡ p ++ set q k b
 set-behind p q at k b e =
     sym (take-append-drop at (set (p ++ q) (at + k) b))
     ∙ ap₂ (λ (x y : List ℕ). x ++ y) (take-set-le at (p ++ q) (at + k) b (omega arith) ∙ take-at p q at e)

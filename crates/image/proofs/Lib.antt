@@ -1,4 +1,5 @@
 pub mod Drafts
+pub mod Checks
 pub mod OwnerForms
 pub mod BlockBytes
 pub mod Placing

@@ -18,9 +18,9 @@ use Rattle.format.specs.Layout.{ownerWidth, library, front, basic, laidOut, fit
 use Rattle.format.proofs.Tests.{and-l}
 use Rattle.format.proofs.Fields.{isil-first, alternative-facts}
 use Rattle.format.proofs.Values.{required-shape, value-short, value-text, value-isil, value-alternative, value-usage}
-use Rattle.format.proofs.Layouts.{basic-length, size-cases}
+use Rattle.format.proofs.Layouts.{item-length, basic-length, size-cases}
 use Rattle.format.specs.Slices.{elements, Valued}
-use Rattle.image.specs.Laying.{owned, basicOf, libraryOf, ownerBehind, usageBehind, fieldsOf, OwnerOrNone, Behind, Placeable, zeros, Buildable}
+use Rattle.image.specs.Laying.{owned, frontOf, libraryOf, ownerBehind, usageBehind, fieldsOf, OwnerOrNone, Behind, Placeable, zeros, Buildable}
 use Rattle.image.proofs.Drafts.{lent-length, lent-blank}
 
 -- ---- clashing by lengths
@@ -36,11 +36,11 @@ clash-lengths item isil set usage media second other bs = rw (empty-length isil,
 
 -- ---- the layout's parts
 
-module _ (n : ℕ) (item owner set usage media second carried : List ℕ) where
-  pub basic-of : basic n (owned item owner set usage media second carried) ≡ basicOf n item owner set usage
-  unfolding basic front place placeIn numbers
-  basic-of = refl
+pub front-length : (item set usage : List ℕ) → length (frontOf item set usage) ≡ 19
+unfolding front place placeIn numbers
+front-length item set usage = ap (λ (n : ℕ). suc (suc (suc n))) (item-length item)
 
+module _ (n : ℕ) (item owner set usage media second carried : List ℕ) where
   pub library-of : library n (owned item owner set usage media second carried) ≡ libraryOf n item owner usage media second
   unfolding library place placeIn numbers
   library-of = refl

@@ -7,12 +7,13 @@ use mathlib.Core.Bool.{true, false}
 use mathlib.Core.List.{List, [], _∷_, _++_}
 use lib.ListN.{length, take, drop, replicate}
 use Rattle.format.specs.Answers.{Answer, plain, got, refused, inOrder, afterwards}
-use Rattle.format.specs.Bytes.{isEmpty, pad, upTo}
+use Rattle.format.specs.Bytes.{isEmpty, same, le16, part, pad, upTo}
 use Rattle.format.specs.Pages.{pageSize, changed}
-use Rattle.format.specs.Fields.{text, isil, hyphen, isOwner, packed}
+use Rattle.format.specs.Crc.{crc, covered}
+use Rattle.format.specs.Fields.{text, isil, hyphen, isOwner, packed, ownerField}
 use Rattle.format.specs.Chain.{Library, libraryBytes, blockOne}
 use Rattle.format.specs.Elements.{Content}
-use Rattle.format.specs.Layout.{library, front, basic, image, fits}
+use Rattle.format.specs.Layout.{ownerWidth, library, front, image, fits}
 use Rattle.format.specs.Calls.{layingSteps}
 use Rattle.format.specs.Slices.{elements}
 use Rattle.image.specs.declared.Laid.{Laid}
@@ -44,9 +45,9 @@ owned item owner set usage media second carried = elements item [] set usage med
 abbrev pub frontOf : List ℕ → List ℕ → List ℕ → List ℕ
 frontOf item set usage = front (owned item [] set usage [] [] [])
 
--- the basic block on n bytes
+-- the basic block on n bytes, with 00 in the CRC's place
 abbrev pub basicOf : ℕ → List ℕ → List ℕ → List ℕ → List ℕ → List ℕ
-basicOf n item owner set usage = basic n (owned item owner set usage [] [] [])
+basicOf n item owner set usage = frontOf item set usage ++ (0 ∷ 0 ∷ ownerField (ownerWidth n) owner)
 
 -- block 1's fields behind a basic block on n bytes
 abbrev pub libraryOf : ℕ → List ℕ → List ℕ → List ℕ → List ℕ → List ℕ → Library
@@ -136,3 +137,21 @@ pub record Buildable (d item owner set usage media second carried : List ℕ) : 
   pub size : 32 ≤ length d
   pub given : Placeable item owner set usage second
   pub fit : fits (length d) (owned item owner set usage media second carried) ≡ true
+
+-- ---- the CRC's place in an image
+
+-- d with the bytes s in the CRC's place
+abbrev pub withCheck : List ℕ → List ℕ → List ℕ
+withCheck s d = take 19 d ++ (s ++ drop 21 d)
+
+-- the CRC's bytes over what d holds
+abbrev pub checkOf : List ℕ → List ℕ
+checkOf d = le16 (crc (covered d))
+
+-- d with them in their place
+abbrev pub checked : List ℕ → List ℕ
+checked d = withCheck (checkOf d) d
+
+-- t has them there: 4 is passed
+abbrev pub RightCheck : List ℕ → Type 0
+RightCheck t = same (part 19 2 t) (checkOf t) ≡ true

@@ -13,7 +13,7 @@ ghost use Rattle.format.specs.Elements.{clash};
 ghost use Rattle.format.specs.Layout.{ownerWidth, image, fits};
 ghost use Rattle.format.specs.Calls.{layoutIs};
 ghost use Rattle.format.specs.Slices.{elements, Valued};
-ghost use Rattle.image.specs.Laying.{Lays, owned, frontOf, basicOf, libraryOf, ownerBehind, usageBehind, fieldsOf, OwnerOrNone, Behind, Placeable, IsilFits, FieldsFit, BlockFits, LibraryFits, Buildable, Blank, laidAt};
+ghost use Rattle.image.specs.Laying.{Lays, owned, frontOf, basicOf, libraryOf, ownerBehind, usageBehind, fieldsOf, OwnerOrNone, Behind, Placeable, IsilFits, FieldsFit, BlockFits, LibraryFits, Buildable, Blank, laidAt, withCheck, checked, RightCheck};
 
 // Laying elements down on a tag: the count of pages changed, or the number of the refusal.
 pub enum Laid {
@@ -220,7 +220,7 @@ fn put_owner(draft: &mut [u8], owner: &[u8])
     put_isil(draft, owner);
 }
 
-// The basic block, with the CRC over what it holds; gives the place behind it.
+// The basic block, with 00 in the CRC's place; gives the place behind it.
 fn put_basic(draft: &mut [u8], item: &[u8], owner: &[u8], set: &[u8], usage: &[u8]) -> usize
     requires { ⌜ (32 ≤ length (now draft)) × Blank 0 (now draft) × OwnerOrNone (now owner) × (length (now owner) ≤ 255) × (length (now set) ≡ 4) × (length (now usage) ≡ 1) ⌝ }
     ensures { λ r. ⌜ (r ≡ 21 + ownerWidth (length (now (draft .entry))))
@@ -228,9 +228,6 @@ fn put_basic(draft: &mut [u8], item: &[u8], owner: &[u8], set: &[u8], usage: &[u
 {
     put_front(draft, item, set, usage);
     put_owner(draft, owner);
-    let sum = crc::of_tag(draft);
-    draft[19] = (sum % 256) as u8;
-    draft[20] = (sum / 256) as u8;
     21 + owner_width(draft.len())
 }
 
@@ -306,7 +303,7 @@ fn put_library(
     put_block(draft, at, kind, second, name, code)
 }
 
-// The writer's own layout, on a draft of 00.
+// The writer's own layout but for the CRC, on a draft of 00.
 fn put_layout(
     draft: &mut [u8],
     item: &[u8],
@@ -318,14 +315,33 @@ fn put_layout(
     carried: &[u8],
 )
     requires { ⌜ Buildable (now draft) (now item) (now owner) (now set) (now usage) (now media) (now second) (now carried) ⌝ }
-    ensures { λ _. ⌜ now (draft .exit) ≡ image (length (now (draft .entry))) (owned (now (item .entry)) (now (owner .entry)) (now (set .entry)) (now (usage .entry)) (now (media .entry)) (now (second .entry)) (now (carried .entry))) ⌝ }
+    ensures { λ _. ⌜ checked (now (draft .exit)) ≡ image (length (now (draft .entry))) (owned (now (item .entry)) (now (owner .entry)) (now (set .entry)) (now (usage .entry)) (now (media .entry)) (now (second .entry)) (now (carried .entry))) ⌝ }
 {
     let at = put_basic(draft, item, owner, set, usage);
     let end = put_library(draft, at, item, owner, usage, media, second);
     put_bytes(draft, end, carried);
 }
 
-// Puts the layout on a draft of 00 and compares it with the tag.
+// Puts two bytes in the CRC's place.
+fn put_check(draft: &mut [u8], low: u8, high: u8)
+    requires { ⌜ 21 ≤ length (now draft) ⌝ }
+    ensures { λ _. ⌜ now (draft .exit) ≡ withCheck (low ∷ high ∷ []) (now (draft .entry)) ⌝ }
+{
+    draft[19] = low;
+    draft[20] = high;
+}
+
+// Puts the CRC over what the draft holds in its place, low byte first.
+fn seal(draft: &mut [u8])
+    requires { ⌜ 21 ≤ length (now draft) ⌝ }
+    ensures { λ _. ⌜ now (draft .exit) ≡ checked (now (draft .entry)) ⌝ }
+{
+    let sum = crc::of_tag(draft);
+    put_check(draft, (sum % 256) as u8, (sum / 256) as u8);
+}
+
+// Puts the layout on a draft of 00 and compares it with the tag. The tag's CRC is right, so where all else is the same it is the layout's
+// too, and none has to be computed.
 fn same_layout(
     draft: &mut [u8],
     item: &[u8],
@@ -337,10 +353,11 @@ fn same_layout(
     carried: &[u8],
     tag: &[u8],
 ) -> bool
-    requires { ⌜ (length (now draft) ≡ length (now tag)) × Buildable (now draft) (now item) (now owner) (now set) (now usage) (now media) (now second) (now carried) ⌝ }
+    requires { ⌜ (length (now draft) ≡ length (now tag)) × Buildable (now draft) (now item) (now owner) (now set) (now usage) (now media) (now second) (now carried) × RightCheck (now tag) ⌝ }
     ensures { λ r. ⌜ r ≡ same (image (length (now (tag .entry))) (owned (now (item .entry)) (now (owner .entry)) (now (set .entry)) (now (usage .entry)) (now (media .entry)) (now (second .entry)) (now (carried .entry)))) (now (tag .entry)) ⌝ }
 {
     put_layout(draft, item, owner, set, usage, media, second, carried);
+    put_check(draft, tag[19], tag[20]);
     pages::same(draft, tag)
 }
 
@@ -361,6 +378,7 @@ fn store_layout(
     ensures { λ r. ⌜ Lays (now (tag .entry)) (now (locks .entry)) (owned (now (item .entry)) (now (owner .entry)) (now (set .entry)) (now (usage .entry)) (now (media .entry)) (now (second .entry)) (now (carried .entry))) r (now (tag .exit)) ⌝ }
 {
     put_layout(draft, item, owner, set, usage, media, second, carried);
+    seal(draft);
     match pages::store(draft, tag, locks) {
         Stored::Done(n) => Laid::Done(n),
         Stored::Refused(k) => Laid::Refused(k),
@@ -378,7 +396,7 @@ fn is_own_with(
     carried: &[u8],
     tag: &[u8],
 ) -> bool
-    requires { ⌜ (goodSize pageSize (length (now tag)) ≡ true) × Placeable (now item) (now owner) (now set) (now usage) (now second) ⌝ }
+    requires { ⌜ (goodSize pageSize (length (now tag)) ≡ true) × Placeable (now item) (now owner) (now set) (now usage) (now second) × RightCheck (now tag) ⌝ }
     ensures { λ r. ⌜ r ≡ layoutIs (owned (now (item .entry)) (now (owner .entry)) (now (set .entry)) (now (usage .entry)) (now (media .entry)) (now (second .entry)) (now (carried .entry))) (now (tag .entry)) ⌝ }
 {
     let n = tag.len();
@@ -464,7 +482,7 @@ fn lay_with(
     )
 }
 
-// Is the elements' layout just what the tag holds.
+// Is the elements' layout just what the tag, whose CRC is right, holds.
 pub fn is_own(
     item: &[u8],
     isil: &[u8],
@@ -477,7 +495,7 @@ pub fn is_own(
     tag: &[u8],
 ) -> bool
     requires { ⌜ (goodSize pageSize (length (now tag)) ≡ true) × Valued (now item) (now isil) (now set) (now usage) (now media) (now second) (now other)
-        × (clash (elements (now item) (now isil) (now set) (now usage) (now media) (now second) (now other) (now carried ∷ [])) ≡ false) ⌝ }
+        × (clash (elements (now item) (now isil) (now set) (now usage) (now media) (now second) (now other) (now carried ∷ [])) ≡ false) × RightCheck (now tag) ⌝ }
     ensures { λ r. ⌜ r ≡ layoutIs (elements (now (item .entry)) (now (isil .entry)) (now (set .entry)) (now (usage .entry)) (now (media .entry)) (now (second .entry)) (now (other .entry)) (now (carried .entry) ∷ [])) (now (tag .entry)) ⌝ }
 {
     if isil.len() == 0 {

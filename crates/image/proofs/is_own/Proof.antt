@@ -9,7 +9,7 @@ use Rattle.image.proofs.is_own.Tie as tie
 is-own-with-requires : tie.Need-is-own-with-requires
 is-own-with-requires c κs =
     let c10 = c .before .before .before .before .before .before .before .before .before .before in
-    let a = c10 .args in (c10 .pre .0, placeable-other (a .item .now) (a .isil .now) (a .set .now) (a .usage .now) (a .media .now) (a .second .now) (a .other .now) (c10 .pre .1))
+    let a = c10 .args in (c10 .pre .0, placeable-other (a .item .now) (a .isil .now) (a .set .now) (a .usage .now) (a .media .now) (a .second .now) (a .other .now) (c10 .pre .1), c10 .pre .3)
 
 returns : tie.Need-returns
 returns c =
@@ -21,7 +21,7 @@ returns c =
 is-own-with-requires-2 : tie.Need-is-own-with-requires-2
 is-own-with-requires-2 c κs =
     let c10 = c .before .before .before .before .before .before .before .before .before .before in
-    let a = c10 .args in (c10 .pre .0, placeable-isil (a .item .now) (a .isil .now) (a .set .now) (a .usage .now) (a .media .now) (a .second .now) (a .other .now) (c10 .pre .1))
+    let a = c10 .args in (c10 .pre .0, placeable-isil (a .item .now) (a .isil .now) (a .set .now) (a .usage .now) (a .media .now) (a .second .now) (a .other .now) (c10 .pre .1), c10 .pre .3)
 
 returns-2 : tie.Need-returns-2
 returns-2 c =

@@ -38,7 +38,8 @@ same-layout-requires c κs =
     let c3 = c1 .before .before in
     let c12 = c3 .before .before .before .before .before .before .before .before .before in
     let a = c12 .args in
-    drafted (length (a .tag .now)) 256 (a .item .now) (a .owner .now) (a .set .now) (a .usage .now) (a .media .now) (a .second .now) (a .carried .now) (c1 .if2 .taken) (c12 .pre .0) (c12 .pre .1) (sym (c3 .has-room .ensures) ∙ not-f _ (c1 .before .if1 .left))
+    let d = drafted (length (a .tag .now)) 256 (a .item .now) (a .owner .now) (a .set .now) (a .usage .now) (a .media .now) (a .second .now) (a .carried .now) (c1 .if2 .taken) (c12 .pre .0) (c12 .pre .1) (sym (c3 .has-room .ensures) ∙ not-f _ (c1 .before .if1 .left)) in
+    (d .0, d .1, c12 .pre .2)
 
 returns-2 : tie.Need-returns-2
 returns-2 c = let c4 = c .before .before .before .before in c .before .same-layout .ensures ∙ both _ _ _ true (c4 .before .has-room .ensures) (not-f _ (c4 .if1 .left))
@@ -60,7 +61,8 @@ same-layout-requires-2 c κs =
     let c12 = c3 .before .before .before .before .before .before .before .before .before in
     let a = c12 .args in
     let n = length (a .tag .now) in
-    drafted n 2048 (a .item .now) (a .owner .now) (a .set .now) (a .usage .now) (a .media .now) (a .second .now) (a .carried .now) (size-most pageSize n (c12 .pre .0)) (c12 .pre .0) (c12 .pre .1) (sym (c3 .has-room .ensures) ∙ not-f _ (c .before .before .if1 .left))
+    let d = drafted n 2048 (a .item .now) (a .owner .now) (a .set .now) (a .usage .now) (a .media .now) (a .second .now) (a .carried .now) (size-most pageSize n (c12 .pre .0)) (c12 .pre .0) (c12 .pre .1) (sym (c3 .has-room .ensures) ∙ not-f _ (c .before .before .if1 .left)) in
+    (d .0, d .1, c12 .pre .2)
 
 returns-3 : tie.Need-returns-3
 returns-3 c = let c4 = c .before .before .before .before in c .before .same-layout2 .ensures ∙ both _ _ _ true (c4 .before .has-room .ensures) (not-f _ (c4 .if1 .left))

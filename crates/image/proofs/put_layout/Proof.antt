@@ -1,23 +1,34 @@
--- `image::put_layout` meets its contract: the basic block, block 1 and the carried blocks one behind the other, on 00.
+-- `image::put_layout` meets its contract: the basic block, block 1 and the carried blocks one behind the other, on 00. With the CRC in
+-- its place that is the layout.
 use mathlib.Core.Path.{_≡_, sym, ap, ap₂, _∙_}
 use Prim.Native.Nat.{ℕ, _+_, _-_, _≤_}
 use native.Mathlib.Omega.{arith}
-use mathlib.Core.List.{List, [], _++_, append-assoc, append-nil}
+use mathlib.Core.List.{List, _∷_, _++_, append-assoc, append-nil}
 use lib.ListN.{length, length-append}
 use borrow.Author.Needs.{needs}
-use Rattle.format.specs.Bytes.{pad, joined}
+use Rattle.format.specs.Bytes.{le16, padWith, pad, joined}
+use Rattle.format.specs.Crc.{crc}
+use Rattle.format.specs.Fields.{ownerField}
 use Rattle.format.specs.Chain.{Library, blockOne}
-use Rattle.format.specs.Layout.{ownerWidth, library, basic, laidOut, image}
-use Rattle.format.proofs.Layouts.{basic-length, fits-parts}
-use Rattle.image.specs.Laying.{owned, basicOf, libraryOf, LibraryFits, Buildable, Blank, laidAt}
+use Rattle.format.specs.Elements.{Content, numbers, placeIn, place}
+use Rattle.format.specs.Layout.{ownerWidth, front, laidOut, image}
+use Rattle.format.proofs.Layouts.{owner-length, image-shape, fits-parts}
+use Rattle.image.specs.Laying.{owned, frontOf, basicOf, libraryOf, LibraryFits, Buildable, Blank, zeros, laidAt, checked}
 use Rattle.image.proofs.Drafts.{On, on-length, on-blank, after}
-use Rattle.image.proofs.Placing.{basic-of, library-of, laid-size}
+use Rattle.image.proofs.Checks.{parts-checked}
+use Rattle.image.proofs.Placing.{front-length, library-of, laid-size}
 use Rattle.image.proofs.put_layout.Statement.{statement}
 use Rattle.image.proofs.put_layout.Tie as tie
 
 module _ {d₀ item owner info usage media second carried : List ℕ} (b : Buildable d₀ item owner info usage media second carried) where
   abbrev n : ℕ
   n = length d₀
+
+  abbrev head : List ℕ
+  head = frontOf item info usage
+
+  abbrev own : List ℕ
+  own = ownerField (ownerWidth n) owner
 
   abbrev first : List ℕ
   first = basicOf n item owner info usage
@@ -29,7 +40,7 @@ module _ {d₀ item owner info usage media second carried : List ℕ} (b : Build
   wide = let h = b .size in omega arith
 
   first-length : length first ≡ 21 + ownerWidth n
-  first-length = basic-length n (owned item owner info usage [] [] []) wide
+  first-length = length-append head (0 ∷ 0 ∷ own) ∙ omega (arith, front-length item info usage, owner-length (ownerWidth n) owner wide)
 
   one-short : length one ≤ 255
   one-short =
@@ -86,15 +97,24 @@ module _ {d₀ item owner info usage media second carried : List ℕ} (b : Build
           let a = length-append first one in
           (omega (arith, on-length on₂), on-blank on₂ end (omega arith) (omega arith))
 
-      ended : (d₃ : List ℕ) → d₃ ≡ laidAt end carried d₂ → d₃ ≡ image n (owned item owner info usage media second carried)
-      unfolding image laidOut joined
+      ended : (d₃ : List ℕ) → d₃ ≡ laidAt end carried d₂ → checked d₃ ≡ image n (owned item owner info usage media second carried)
+      unfolding padWith front joined place placeIn numbers
       ended d₃ e₃ =
-          let z : n - 0 ≡ n = omega arith in
-          after on₂ end carried d₃ (end-is ∙ omega arith) (omega (arith, carried-fits .0, on-length on₂)) e₃ .is
-          ∙ ap (λ (m : ℕ). pad m ((first ++ one) ++ carried)) z
-          ∙ ap (pad n) (append-assoc first one carried
-          ∙ ap₂ (λ (x y : List ℕ). x ++ (y ++ carried)) (sym (basic-of n item owner info usage media second carried)) (ap blockOne (sym (library-of n item owner info usage media second carried)))
-          ∙ ap (λ (x : List ℕ). basic n (owned item owner info usage media second carried) ++ (blockOne (library n (owned item owner info usage media second carried)) ++ x)) (sym (append-nil carried)))
+          let c : Content = owned item owner info usage media second carried in
+          let on₃ = after on₂ end carried d₃ (end-is ∙ omega arith) (omega (arith, carried-fits .0, on-length on₂)) e₃ in
+          let m : n - 0 - length ((first ++ one) ++ carried) ≡ n - length (laidOut n c) = omega (
+            arith,
+            length-append (first ++ one) carried,
+            length-append first one,
+            first-length,
+            laid-size n item owner info usage media second carried wide,
+          ) in
+          let z : List ℕ = zeros (n - length (laidOut n c)) in
+          let is : d₃ ≡ head ++ (0 ∷ 0 ∷ (own ++ (one ++ (carried ++ z)))) = on₃ .is ∙ ap (λ (k : ℕ). ((first ++ one) ++ carried) ++ zeros k) m
+          ∙ append-assoc (first ++ one) carried z ∙ append-assoc first one (carried ++ z) ∙ append-assoc head (0 ∷ 0 ∷ own) (one ++ (carried ++ z)) in
+          parts-checked head own (one ++ (carried ++ z)) d₃ (front-length item info usage) (owner-length (ownerWidth n) owner wide ∙ ap ownerWidth (sym (on-length on₃))) is
+          ∙ sym (image-shape n c
+          ∙ ap₂ (λ (x y : List ℕ). head ++ (le16 (crc (head ++ pad 13 own)) ++ (own ++ (x ++ (y ++ z))))) (ap blockOne (library-of n item owner info usage media second carried)) (append-nil carried))
 
 put-basic-requires : tie.Need-put-basic-requires
 put-basic-requires c κs =

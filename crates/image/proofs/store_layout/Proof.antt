@@ -1,6 +1,7 @@
 -- `image::store_layout` meets its contract: 10 and 11 are passed, and storing gives 12.
 use mathlib.Core.Path.{_≡_, refl, sym, ap, _∙_}
 use Prim.Native.Nat.{ℕ}
+use native.Mathlib.Omega.{arith}
 use mathlib.Core.Bool.{true, false, not}
 use mathlib.Core.List.{List}
 use lib.ListN.{length}
@@ -44,6 +45,9 @@ module _ (t locks d : List ℕ) (c : Content) (good : goodSize pageSize (length 
 put-layout-requires : tie.Need-put-layout-requires
 put-layout-requires c κs = search needs
 
+seal-requires : tie.Need-seal-requires
+seal-requires c κs = omega (arith, c .before .before .draft .given, c .before .before .before .before .before .before .before .before .before .before .before .before .before .before .before .pre .2 .size)
+
 store-requires : tie.Need-store-requires
 store-requires c κs = search needs
 
@@ -64,10 +68,11 @@ returns c =
     let c1 = c .before in
     let c5 = c1 .before .before .before .before in
     let c10 = c5 .before .before .before .before .before in
-    let c22 = c10 .before .before .before .before .before .before .before .before .before .before .before .before in
-    let a = c22 .args in
-    let p = c22 .pre in
-    stored (a .tag .now) (a .locks .now) _ (owned (a .item .now) (a .owner .now) (a .set .now) (a .usage .now) (a .media .now) (a .second .now) (a .carried .now)) (p .0) (p .3) (length (a .draft .now)) (p .1) (p .2 .fit) (c10 .put-layout .ensures) (c5 .store .result) _ _ (sym (ap storedGiven (c1 .n .given .1))) (c5 .store .ensures .0) (c5 .store .ensures .1)
+    let c14 = c10 .before .before .before .before in
+    let c26 = c14 .before .before .before .before .before .before .before .before .before .before .before .before in
+    let a = c26 .args in
+    let p = c26 .pre in
+    stored (a .tag .now) (a .locks .now) _ (owned (a .item .now) (a .owner .now) (a .set .now) (a .usage .now) (a .media .now) (a .second .now) (a .carried .now)) (p .0) (p .3) (length (a .draft .now)) (p .1) (p .2 .fit) (c10 .seal .ensures ∙ c14 .put-layout .ensures) (c5 .store .result) _ _ (sym (ap storedGiven (c1 .n .given .1))) (c5 .store .ensures .0) (c5 .store .ensures .1)
 
 same-length-3 : tie.Need-same-length-3
 same-length-3 c = search needs
@@ -80,16 +85,18 @@ returns-2 c =
     let c1 = c .before in
     let c5 = c1 .before .before .before .before in
     let c10 = c5 .before .before .before .before .before in
-    let c22 = c10 .before .before .before .before .before .before .before .before .before .before .before .before in
-    let a = c22 .args in
-    let p = c22 .pre in
-    stored (a .tag .now) (a .locks .now) _ (owned (a .item .now) (a .owner .now) (a .set .now) (a .usage .now) (a .media .now) (a .second .now) (a .carried .now)) (p .0) (p .3) (length (a .draft .now)) (p .1) (p .2 .fit) (c10 .put-layout .ensures) (c5 .store .result) _ _ (sym (ap storedGiven (c1 .k .given .1))) (c5 .store .ensures .0) (c5 .store .ensures .1)
+    let c14 = c10 .before .before .before .before in
+    let c26 = c14 .before .before .before .before .before .before .before .before .before .before .before .before in
+    let a = c26 .args in
+    let p = c26 .pre in
+    stored (a .tag .now) (a .locks .now) _ (owned (a .item .now) (a .owner .now) (a .set .now) (a .usage .now) (a .media .now) (a .second .now) (a .carried .now)) (p .0) (p .3) (length (a .draft .now)) (p .1) (p .2 .fit) (c10 .seal .ensures ∙ c14 .put-layout .ensures) (c5 .store .result) _ _ (sym (ap storedGiven (c1 .k .given .1))) (c5 .store .ensures .0) (c5 .store .ensures .1)
 
 pub store-layout-spec : {M : Type 1} → statement M
 store-layout-spec =
     tie.close
     (tie.spec
     put-layout-requires
+    seal-requires
     store-requires
     enum-known-n
     enum-known-k
