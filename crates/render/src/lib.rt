@@ -30,7 +30,7 @@ fn is_carried(block: &[u8]) -> bool
 }
 
 // Copies the carried blocks of a tag whose chain is whole, one after the other, to `out` from `at` on; answers the place behind them.
-pub fn gather(tag: &[u8], out: &mut [u8], at: usize) -> usize
+fn gather(tag: &[u8], out: &mut [u8], at: usize) -> usize
     requires { ⌜ (walked (now tag) ≡ got (blocksIn (now tag))) × (at + length (joined (carriedOn (now tag))) ≤ length (now out)) ⌝ }
     ensures { λ r. ⌜ stored (now (out .entry)) at (joined (carriedOn (now (tag .entry)))) r (now (out .exit)) ⌝ }
 {
@@ -179,6 +179,7 @@ fn numbered_bytes(
 
 // The sheet of the elements of a tag, whose chain is whole and has `count` carried blocks of `size` bytes. Answers 14 where an offset
 // would pass 65,535 and 2 where `sheet` is too short, and then stores nothing; else the sheet's length, and just that much is filled.
+// Where `blocks` is as long as the carried blocks it is they, one behind the other, and one copy does; else the chain is walked for them.
 pub fn render(
     tag: &[u8],
     count: usize,
@@ -190,11 +191,13 @@ pub fn render(
     media: &[u8],
     second: &[u8],
     other: &[u8],
+    blocks: &[u8],
     sheet: &mut [u8],
 ) -> ReadAnswer
     requires { ⌜ (walked (now tag) ≡ got (blocksIn (now tag))) × (length (now tag) ≤ 2048)
         × (count ≡ length (carriedOn (now tag))) × (size ≡ length (joined (carriedOn (now tag))))
-        × Short (now item) (now isil) (now set) (now usage) (now media) (now second) (now other) ⌝ }
+        × Short (now item) (now isil) (now set) (now usage) (now media) (now second) (now other)
+        × (length (now blocks) ≡ size → now blocks ≡ joined (carriedOn (now tag))) ⌝ }
     ensures { λ r. ⌜ Rendered
         (entries (elements (now (item .entry)) (now (isil .entry)) (now (set .entry)) (now (usage .entry)) (now (media .entry)) (now (second .entry)) (now (other .entry)) (carriedOn (now (tag .entry)))))
         (now (sheet .entry)) r (now (sheet .exit)) ⌝ }
@@ -221,5 +224,8 @@ pub fn render(
     let next = numbered_heads(sheet, offset, item, isil, set, usage, media, second, other);
     let first = carried_heads(tag, sheet, next, carried);
     let behind = numbered_bytes(sheet, first, item, isil, set, usage, media, second, other);
+    if blocks.len() == size {
+        return ReadAnswer::Done(put_bytes(sheet, behind, blocks));
+    }
     ReadAnswer::Done(gather(tag, sheet, behind))
 }

@@ -1,5 +1,5 @@
 -- `render::render` meets its contract: the count, the heads and the bytes are stored one behind the other, and are the sheet.
-use mathlib.Core.Path.{_≡_, refl, sym, ap, _∙_}
+use mathlib.Core.Path.{_≡_, refl, sym, ap, subst, _∙_}
 use mathlib.Core.List.{List, [], _∷_, _++_}
 use Prim.Native.Nat.{ℕ, _+_, _*_, _/_, _%_, _≤_}
 use native.Mathlib.Omega.{arith}
@@ -8,7 +8,8 @@ use Rattle.format.specs.Bytes.{joined, le16}
 use Rattle.format.specs.Elements.{numbers}
 use Rattle.format.specs.Sheet.{Entry, heads, bodies, sheetOf, carriedEntries, entries}
 use Rattle.format.specs.Pieces.{stored}
-use Rattle.render.specs.Rendering.{carriedOn, numbered}
+use Rattle.format.specs.declared.ReadAnswer.the-variants.{Done}
+use Rattle.render.specs.Rendering.{carriedOn, numbered, Rendered}
 use Rattle.format.proofs.Pieces.{stored-length, stored-front}
 use Rattle.chain.proofs.Laws.{carried-start, carried-room}
 use Rattle.render.proofs.Several.{stored-place, stored-all}
@@ -31,7 +32,7 @@ size e =
 
 -- the place of the first call
 abbrev start : tie.After-numbered-count → tie.Start
-start k = k .before .before .before .before .before .before .before .before .before .before
+start k = k .before .before .before .before .before .before .before .before .before .before .before
 
 measures : (k : tie.After-numbered-count) → let e = start k in Measured (first e) (carriedOn (e .args .tag .now)) (k .numbered-count .result) (e .args .count) (size e) (e .args .size)
 unfolding numbers countAt sizes
@@ -96,27 +97,54 @@ after-bytes c =
 abbrev all : tie.Start → List Entry
 all e = first e ++ carriedEntries (carriedOn (e .args .tag .now))
 
--- the place where the buffer has room for all
-abbrev roomy : tie.After-gather → tie.Else2
-roomy c = c .before .before .before .before .before .before .before .before .before .before .before .before .before .before
+-- the place where the buffer has room for all, and the start
+abbrev roomy : tie.After-numbered-bytes → tie.Else2
+roomy c = c .before .before .before .before .before .before .before .before .before .before
 
-room : (c : tie.After-gather) → let e = start (roomy c .before .before) in length (sheetOf (all e)) ≤ length (e .args .sheet .now)
+abbrev begun : tie.After-numbered-bytes → tie.Start
+begun c = start (roomy c .before .before)
+
+room : (c : tie.After-numbered-bytes) → length (sheetOf (all (begun c))) ≤ length (begun c .args .sheet .now)
 room c = omega (arith, measures (roomy c .before .before) .total, roomy c .if2 .left)
 
-after-gather : (c : tie.After-gather) → let e = start (roomy c .before .before) in stored (e .args .sheet .now) 0 (sheetOf (all e)) (c .gather .result) (c .gather .last .1 .0)
-after-gather c =
-    let j = c .before .before .before .before in
-    let i = j .before .before .before .before in
+-- behind the other pieces there is room for the carried blocks
+blocks-room : (c : tie.After-numbered-bytes) → c .numbered-bytes .result + begun c .args .size ≤ length (c .numbered-bytes .last .0)
+blocks-room c = omega (arith, after-bytes c, roomy c .before .before .numbered-count .ensures .0, roomy c .if2 .left)
+
+-- the carried blocks are stored there, in whatever way
+abbrev Last : tie.After-numbered-bytes → ℕ → List ℕ → Type 0
+Last c r d = stored (c .numbered-bytes .last .0) (c .numbered-bytes .result) (joined (carriedOn (begun c .args .tag .now))) r d
+
+-- and then the sheet is
+whole : (c : tie.After-numbered-bytes) (r : ℕ) (d : List ℕ) → Last c r d → stored (begun c .args .sheet .now) 0 (sheetOf (all (begun c))) r d
+whole c r d last =
+    let i = c .before .before .before .before in
     let h = i .before .before .before .before in
     let k = h .before .before .before .before in
     let e = start k in
     let cs = carriedOn (e .args .tag .now) in
     let m = measures k in
-    stored-all (e .args .sheet .now) (c .gather .last .1 .0) (sheetOf (all e))
+    stored-all (e .args .sheet .now) d (sheetOf (all e))
     (le16 (count k) ∷ heads (2 + 4 * count k) (first e) ∷ heads (2 + 4 * count k + size e) (carriedEntries cs) ∷ bodies (first e) ∷ joined cs ∷ [])
-    0 (c .gather .result) (sheet-joined (first e) cs (count k) (size e) (m .entries) (m .bytes)) (omega (arith, room c))
+    0 r (sheet-joined (first e) cs (count k) (size e) (m .entries) (m .bytes)) (omega (arith, room c))
     (more (stored-count (e .args .sheet .now) (count k) (omega (arith, room c, m .total)))
-    (more (h .numbered-heads .ensures) (more (i .carried-heads .ensures) (more (j .numbered-bytes .ensures) (more (c .gather .ensures) none)))))
+    (more (h .numbered-heads .ensures) (more (i .carried-heads .ensures) (more (c .numbered-bytes .ensures) (more last none)))))
+
+done : (c : tie.After-numbered-bytes) (r : ℕ) (d : List ℕ) → Last c r d → Rendered (all (begun c)) (begun c .args .sheet .now) (Done r) d
+done c r d last =
+    let k = roomy c .before .before in
+    let e = begun c in
+    let f = stored-front (e .args .sheet .now) d (sheetOf (all e)) r (whole c r d last) in
+    rendered-done (all e) (e .args .sheet .now) (omega (arith, measures k .total, bounds k)) r d (room c) (f .0) (f .1)
+
+kept : (c : tie.After-numbered-bytes) (r : ℕ) (d : List ℕ) → Last c r d → length d ≡ length (begun c .args .sheet .now)
+kept c r d last = let e = begun c in stored-length (e .args .sheet .now) (sheetOf (all e)) d 0 r (omega (arith, room c)) (whole c r d last)
+
+-- where they came in one piece that piece is they
+in-one : (c : tie.After-put-bytes) → Last (c .before .before .before .before .before) (c .put-bytes .result) (c .put-bytes .last .0)
+in-one c =
+    let j = c .before .before .before .before .before in
+    subst (λ (s : List ℕ). stored (j .numbered-bytes .last .0) (j .numbered-bytes .result) s (c .put-bytes .result) (c .put-bytes .last .0)) (begun j .pre .5 (c .before .before .if3 .taken)) (c .put-bytes .ensures)
 
 numbered-count-requires : tie.Need-numbered-count-requires
 numbered-count-requires c κs = search needs
@@ -197,27 +225,25 @@ carried-heads-requires c κs =
 numbered-bytes-requires : tie.Need-numbered-bytes-requires
 numbered-bytes-requires c κs = let i = c .before .before .before in omega (arith, after-carried i, i .before .before .before .before .before .before .if2 .left)
 
-gather-requires : tie.Need-gather-requires
-gather-requires c κs =
-    let j = c .before .before .before in
-    let k = j .before .before .before .before .before .before .before .before .before .before .before .before in
-    let e = start k in
-    (e .pre .0, omega (arith, after-bytes j, e .pre .3, k .numbered-count .ensures .0, j .before .before .before .before .before .before .before .before .before .before .if2 .left))
+put-bytes-requires : tie.Need-put-bytes-requires
+put-bytes-requires c κs = omega (arith, blocks-room (c .before .before .before .before), c .before .if3 .taken)
+
+same-length : tie.Need-same-length
+same-length c = let p = c .before .before in kept (p .before .before .before .before .before) _ _ (in-one p)
 
 returns-3 : tie.Need-returns-3
 unfolding entries
-returns-3 c =
-    let g = c .before .before in
-    let k = roomy g .before .before in
-    let e = start k in
-    let f = stored-front (e .args .sheet .now) (g .gather .last .1 .0) (sheetOf (all e)) (g .gather .result) (after-gather g) in
-    rendered-done (all e) (e .args .sheet .now) (omega (arith, measures k .total, bounds k)) (g .gather .result) (g .gather .last .1 .0) (room g) (f .0) (f .1)
+returns-3 c = let p = c .before .before in done (p .before .before .before .before .before) _ _ (in-one p)
 
-same-length : tie.Need-same-length
-same-length c =
-    let g = c .before .before in
-    let e = start (roomy g .before .before) in
-    stored-length (e .args .sheet .now) (sheetOf (all e)) (g .gather .last .1 .0) 0 (g .gather .result) (omega (arith, room g)) (after-gather g)
+gather-requires : tie.Need-gather-requires
+gather-requires c κs = let j = c .before .before .before .before in (begun j .pre .0, omega (arith, blocks-room j, begun j .pre .3))
+
+same-length-2 : tie.Need-same-length-2
+same-length-2 c = let g = c .before .before in kept (g .before .before .before .before .before) _ _ (g .gather .ensures)
+
+returns-4 : tie.Need-returns-4
+unfolding entries
+returns-4 c = let g = c .before .before in done (g .before .before .before .before .before) _ _ (g .gather .ensures)
 
 pub render-spec : {M : Type 1} → statement M
 render-spec =
@@ -244,6 +270,9 @@ render-spec =
     numbered-heads-requires
     carried-heads-requires
     numbered-bytes-requires
-    gather-requires
+    put-bytes-requires
     same-length
-    returns-3)
+    returns-3
+    gather-requires
+    same-length-2
+    returns-4)
