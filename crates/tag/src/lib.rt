@@ -285,6 +285,12 @@ pub fn edit(tag: &mut [u8], locks: &[u8], number: u32, bytes: &[u8], old: &mut [
     let Stage::Passed = sized else {
         return EditAnswer::Refused(stage_number(sized));
     };
+    // most tags are small, and clearing 2,048 bytes would cost more than copying them
+    if n <= 256 {
+        let mut before = [0u8; 256];
+        bytes::copy(tag, &mut before);
+        return edit_copy(&before[0..n], tag, locks, number, bytes, old);
+    }
     let mut before = [0u8; 2048];
     bytes::copy(tag, &mut before);
     edit_copy(&before[0..n], tag, locks, number, bytes, old)

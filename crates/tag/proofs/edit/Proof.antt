@@ -1,10 +1,11 @@
--- `edit` judges size and lock map, and copies the tag.
+-- `edit` judges size and lock map, and copies the tag, to a buffer of one length or another.
 use mathlib.Core.Path.{_≡_, refl, sym, ap, _∙_}
 use Prim.Native.Nat.{ℕ, _≤_}
 use mathlib.Core.Bool.{true, _&&_}
 use mathlib.Core.List.{List, _++_}
-use lib.ListN.{length, drop, replicate}
+use lib.ListN.{length, take, drop, replicate}
 use lib.Seq.{take-length}
+use Rattle.format.specs.Bytes.{filled}
 use Rattle.format.specs.Pages.{pageSize, goodSize, lockMap}
 use Rattle.format.proofs.Tests.{and-l}
 use Rattle.format.proofs.Answers.{need-inv}
@@ -34,9 +35,6 @@ returns c =
     let told = c .before .enum-told2 .given .1 in
     size-edits (a .tag .now) (a .locks .now) (a .number) (a .bytes .now) (a .old .now) _ _ (sym (c .before .before .before .size-stage .ensures) ∙ ap stageGiven told) (c .stage-number .ensures ∙ ap stageNumber told)
 
-slice-aggregate-copy : tie.Need-slice-aggregate-copy
-slice-aggregate-copy c = search needs
-
 -- 1 is passed, so the tag has at most 2,048 bytes
 passed : (c : tie.After-enum-told) → let a = c .before .before .before .before .before .before .before .args in goodSize pageSize (length (a .tag .now)) && lockMap pageSize (a .locks .now) (length (a .tag .now)) ≡ true
 passed c =
@@ -46,8 +44,15 @@ passed c =
 small : (c : tie.After-enum-told) → length (c .before .before .before .before .before .before .before .args .tag .now) ≤ 2048
 small c = let a = c .before .before .before .before .before .before .before .args in size-most pageSize (length (a .tag .now)) (and-l (goodSize pageSize (length (a .tag .now))) (lockMap pageSize (a .locks .now) (length (a .tag .now))) (passed c))
 
+-- what a copy of t leaves in a buffer z
+copy-fills : (t z own : List ℕ) → own ≡ take (length t) t ++ drop (length t) z → own ≡ filled t z
+copy-fills t z own e = e ∙ ap (λ (x : List ℕ). x ++ drop (length t) z) (take-length t)
+
+slice-aggregate-copy : tie.Need-slice-aggregate-copy
+slice-aggregate-copy c = search needs
+
 copy-requires : tie.Need-copy-requires
-copy-requires c κs = small (c .before .before)
+copy-requires c κs = c .before .before .if1 .taken
 
 sub-edit-copy : tie.Need-sub-edit-copy
 sub-edit-copy c = search needs
@@ -57,17 +62,15 @@ part-edit-copy-start c = search needs
 
 part-edit-copy-end : tie.Need-part-edit-copy-end
 part-edit-copy-end c =
-    let t = c .before .before .before .before .before .before .before .before .before .before .before .before .args .tag .now in
-    let e = c .before .before .copy .ensures in
-    front-within t (replicate 2048 0) _ (length t) refl (e .1 ∙ ap (λ (x : List ℕ). x ++ drop (length t) (replicate 2048 0)) (take-length t)) (small (c .before .before .before .before .before))
+    let t = c .before .before .before .before .before .before .before .before .before .before .before .before .before .args .tag .now in
+    front-within t (replicate 256 0) _ (length t) refl (copy-fills t (replicate 256 0) _ (c .before .before .copy .ensures .1)) (c .before .before .before .before .before .if1 .taken)
 
 edit-copy-requires : tie.Need-edit-copy-requires
 edit-copy-requires c κs =
-    let t = c .before .before .before .before .before .before .before .before .before .before .before .before .before .before .before .args .tag .now in
-    let e = c .before .before .before .before .before .copy .ensures in
+    let t = c .before .before .before .before .before .before .before .before .before .before .before .before .before .before .before .before .args .tag .now in
     record {
-      copy = front-part t (replicate 2048 0) _ (length t) refl (e .1 ∙ ap (λ (x : List ℕ). x ++ drop (length t) (replicate 2048 0)) (take-length t));
-      sized = passed (c .before .before .before .before .before .before .before .before);
+      copy = front-part t (replicate 256 0) _ (length t) refl (copy-fills t (replicate 256 0) _ (c .before .before .before .before .before .copy .ensures .1));
+      sized = passed (c .before .before .before .before .before .before .before .before .before);
     }
 
 same-length : tie.Need-same-length
@@ -78,6 +81,40 @@ same-length-2 c = search needs
 
 returns-2 : tie.Need-returns-2
 returns-2 c = search needs
+
+slice-aggregate-copy-2 : tie.Need-slice-aggregate-copy-2
+slice-aggregate-copy-2 c = search needs
+
+copy-requires-2 : tie.Need-copy-requires-2
+copy-requires-2 c κs = small (c .before .before .before)
+
+sub-edit-copy-2 : tie.Need-sub-edit-copy-2
+sub-edit-copy-2 c = search needs
+
+part-edit-copy-start-2 : tie.Need-part-edit-copy-start-2
+part-edit-copy-start-2 c = search needs
+
+part-edit-copy-end-2 : tie.Need-part-edit-copy-end-2
+part-edit-copy-end-2 c =
+    let t = c .before .before .before .before .before .before .before .before .before .before .before .before .before .args .tag .now in
+    front-within t (replicate 2048 0) _ (length t) refl (copy-fills t (replicate 2048 0) _ (c .before .before .copy2 .ensures .1)) (small (c .before .before .before .before .before .before))
+
+edit-copy-requires-2 : tie.Need-edit-copy-requires-2
+edit-copy-requires-2 c κs =
+    let t = c .before .before .before .before .before .before .before .before .before .before .before .before .before .before .before .before .args .tag .now in
+    record {
+      copy = front-part t (replicate 2048 0) _ (length t) refl (copy-fills t (replicate 2048 0) _ (c .before .before .before .before .before .copy2 .ensures .1));
+      sized = passed (c .before .before .before .before .before .before .before .before .before);
+    }
+
+same-length-3 : tie.Need-same-length-3
+same-length-3 c = search needs
+
+same-length-4 : tie.Need-same-length-4
+same-length-4 c = search needs
+
+returns-3 : tie.Need-returns-3
+returns-3 c = search needs
 
 pub edit-spec : {M : Type 1} → statement M
 edit-spec =
@@ -96,4 +133,13 @@ edit-spec =
     edit-copy-requires
     same-length
     same-length-2
-    returns-2)
+    returns-2
+    slice-aggregate-copy-2
+    copy-requires-2
+    sub-edit-copy-2
+    part-edit-copy-start-2
+    part-edit-copy-end-2
+    edit-copy-requires-2
+    same-length-3
+    same-length-4
+    returns-3)
