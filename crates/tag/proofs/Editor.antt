@@ -18,7 +18,7 @@ use Rattle.format.specs.Calls.{layingSteps, layoutIs, ownLayout, editSteps, Edi
 use Rattle.format.specs.Numbers.{Edits}
 use Rattle.format.specs.declared.EditAnswer.the-variants as edit
 use Rattle.format.proofs.Tests.{and-l, and-r, eqb-sym}
-use Rattle.format.proofs.Answers.{first-no, next-ok, next-inv, refused-on, refused-with, passed-on, works, worked, afterwards-got, afterwards-refused}
+use Rattle.format.proofs.Answers.{first-no, next-ok, next-no, next-inv, refused-on, refused-with, passed-on, works, worked, afterwards-got, afterwards-refused}
 use Rattle.format.proofs.Joined.{joined-one, image-joined, fits-joined, clash-joined}
 use Rattle.format.proofs.Readable.{readable-on}
 use Rattle.format.proofs.Slots.{value-of}
@@ -27,10 +27,9 @@ use Rattle.image.specs.declared.Laid.{Laid}
 use Rattle.image.specs.declared.Laid.the-variants as laid
 use Rattle.look.specs.View.{judged}
 use Rattle.image.specs.Laying.{laidGiven, laying, Lays}
-use Rattle.render.specs.Rendering.{carriedOn}
 use Rattle.tag.specs.Picking.{picked}
 use Rattle.tag.specs.Editing.{Copied, Editable}
-use Rattle.tag.proofs.Seen.{Slices, slices-elements, slices-valued, seen-carried, seen-elements, seen-valued, seen-clear, seen-sound, seen-readable}
+use Rattle.tag.proofs.Seen.{Slices, slices-elements, slices-valued, seen-elements, seen-valued, seen-clear, seen-sound, seen-readable}
 use Rattle.tag.proofs.Writer.{laying-joined}
 
 -- ---- one element picked
@@ -104,6 +103,16 @@ look-edits t locks n s buffer k m z j e =
     let g = and-l (goodSize pageSize (length t)) (lockMap pageSize locks (length t)) z in
     let r : inOrder {A = Unit {0}} (tagSteps t) tt ≡ refused (plain k) = sym (next-ok 1 (goodSize pageSize (length t)) (tagSteps t) tt g) ∙ j in
     refused-edits t locks n s buffer k m (next-ok 1 (sized t locks) _ _ z ∙ refused-on (tagSteps t) _ tt _ (plain k) r) e
+
+-- 13: a tag that is not the writer's own layout
+pub loose-edits : (t locks : List ℕ) (n : ℕ) (s buffer : List ℕ) → sized t locks ≡ true → judged t ≡ got tt → (ownLayout t ≡ true → ⊥) → Edits t locks n s buffer (edit.Refused 13) t buffer
+unfolding editing editSteps
+loose-edits t locks n s buffer z j h =
+    refused-edits t locks n s buffer 13 13 (next-ok 1 (sized t locks) _ _ z ∙ readable-on t _ _ (seen-readable t j) ∙ next-no 13 (ownLayout t) _ _ (untrue (ownLayout t) h)) refl
+  where
+    untrue : (x : Bool) → (x ≡ true → ⊥) → x ≡ false
+    untrue true f = absurd (f refl)
+    untrue false f = refl
 
 -- ---- a tag that was seen, and its elements in slices
 
@@ -242,10 +251,9 @@ module _ (n : ℕ) (s e1 e3 e4 e5 e19 e22 e23 p1 p3 p4 p5 p19 p22 p23 : List ℕ
 
 -- what was seen of a copy holds of the tag
 pub copy-editable : (b t locks item isil set usage media second other carried : List ℕ) → Copied b t locks → judged b ≡ got tt → bytes b ≡ true
-    → Slices (contentIn b) item isil set usage media second other → carried ≡ joined (carriedOn b) → Editable t locks item isil set usage media second other carried
+    → Slices (contentIn b) item isil set usage media second other → carried ≡ joined (contentIn b .carried) → Editable t locks item isil set usage media second other carried
 copy-editable b t locks item isil set usage media second other carried k j y h r =
     let e : b ≡ t = k .copy in
-    let q : carried ≡ joined (contentIn b .carried) = r ∙ sym (ap joined (seen-carried b)) in
     record {
       sized = k .sized;
       seen = rw e at j;
@@ -257,8 +265,11 @@ copy-editable b t locks item isil set usage media second other carried k j y h r
       s19 = rw e at (h .s19);
       s22 = rw e at (h .s22);
       s23 = rw e at (h .s23);
-      row = rw e at q;
+      row = rw e at r;
     }
 
 pub copy-look-edits : (b t locks : List ℕ) (n : ℕ) (s buffer : List ℕ) (k m : ℕ) → Copied b t locks → judged b ≡ refused (plain k) → m ≡ k → Edits t locks n s buffer (edit.Refused m) t buffer
 copy-look-edits b t locks n s buffer k m c j e = look-edits t locks n s buffer k m (c .sized) (rw (c .copy) at j) e
+
+pub copy-loose-edits : (b t locks : List ℕ) (n : ℕ) (s buffer : List ℕ) → Copied b t locks → judged b ≡ got tt → (ownLayout b ≡ true → ⊥) → Edits t locks n s buffer (edit.Refused 13) t buffer
+copy-loose-edits b t locks n s buffer c j h = loose-edits t locks n s buffer (c .sized) (rw (c .copy) at j) (rw (c .copy) at h)

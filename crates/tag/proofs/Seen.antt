@@ -6,9 +6,9 @@ use native.Mathlib.Omega.{arith}
 use mathlib.Core.Bool.{true, false}
 use mathlib.Core.List.{List, [], _∷_, _++_, append-nil}
 use lib.ListN.{length, take, drop, length-append, length-drop}
-use lib.Seq.{take-append-seam, take-all}
+use lib.Seq.{take-append-seam, take-all, length-take-le}
 use Rattle.format.specs.Answers.{Refusal, got, refused, plain, Step, inOrder}
-use Rattle.format.specs.Bytes.{bytes, filled}
+use Rattle.format.specs.Bytes.{bytes, part, joined, filled}
 use Rattle.format.specs.Pages.{pageSize, goodSize}
 use Rattle.format.specs.Elements.{Content, numbers, place, placeIn, el, setBytes, clash, sound}
 use Rattle.format.specs.Slices.{elements, Valued, Held}
@@ -21,6 +21,7 @@ use Rattle.format.specs.declared.Part.{Part}
 use Rattle.format.proofs.Layouts.{size-most, size-cases}
 use Rattle.format.proofs.Strings.{le16-byte}
 use Rattle.look.specs.declared.Look.{Look}
+use Rattle.look.specs.declared.View.{View}
 use Rattle.look.specs.declared.Look.the-variants.{Seen, Refused}
 use Rattle.look.specs.View.{Viewed, Looked, seen, refuses, lookSteps, judged}
 use Rattle.render.specs.Rendering.{carriedOn}
@@ -85,10 +86,22 @@ seen-whole t = seen-elements t (carriedOn t) ∙ ap (λ (bs : List (List ℕ)). 
 -- ---- the slices that the code lends
 
 -- a part of the tag, cut from its start to its end
-pub held-part : (t : List ℕ) (p : Part) (s : List ℕ) → Held t p s → take (p .at + p .len - p .at) (drop (p .at) t) ≡ s
-held-part t p s h =
+pub cut-part : (t : List ℕ) (p : Part) → take (p .at + p .len - p .at) (drop (p .at) t) ≡ part (p .at) (p .len) t
+cut-part t p =
     let k : p .at + p .len - p .at ≡ p .len = omega arith in
-    ap (λ (n : ℕ). take n (drop (p .at) t)) k ∙ h .is
+    ap (λ (n : ℕ). take n (drop (p .at) t)) k
+
+pub held-part : (t : List ℕ) (p : Part) (s : List ℕ) → Held t p s → take (p .at + p .len - p .at) (drop (p .at) t) ≡ s
+held-part t p s h = cut-part t p ∙ h .is
+
+-- the carried blocks, where the part that the view tells of is as long as they
+pub seen-blocks : (t : List ℕ) (v : View) → Viewed t v → let s = take (v .blocks .at + v .blocks .len - v .blocks .at) (drop (v .blocks .at) t) in
+    length s ≡ v .size → s ≡ joined (carriedOn t)
+seen-blocks t v w e =
+    let p : Part = v .blocks in
+    let l : length (part (p .at) (p .len) t) ≡ p .len = length-take-le (p .len) (drop (p .at) t) (omega (arith, length-drop (p .at) t, w .blocks-inside)) in
+    let h : p .len ≡ v .size = sym l ∙ ap length (sym (cut-part t p)) ∙ e in
+    cut-part t p ∙ w .blocks h ∙ ap joined (seen-carried t)
 
 -- the rest of a slice
 pub rest-part : (s : List ℕ) (at : ℕ) → take (length s - at) (drop at s) ≡ drop at s

@@ -19,6 +19,7 @@ ghost use Rattle.format.specs.Elements.{clash, known, value, el};
 ghost use Rattle.format.specs.Slices.{elements, Valued};
 ghost use Rattle.format.specs.Calls.{layoutIs};
 ghost use Rattle.format.specs.Numbers.{Reads, Writes, Edits};
+ghost use Rattle.image.specs.Laying.{RightCheck};
 ghost use Rattle.look.specs.View.{Viewed, judged};
 ghost use Rattle.tag.specs.Stages.{stageGiven, stageNumber, scanNumber, laidNumber};
 ghost use Rattle.tag.specs.Picking.{picked};
@@ -111,6 +112,9 @@ fn read_view(tag: &[u8], view: View, sheet: &mut [u8]) -> ReadAnswer
     let other_end = other_at + other.len;
     let count = view.count;
     let size = view.size;
+    let blocks = view.blocks;
+    let blocks_at = blocks.at;
+    let blocks_end = blocks_at + blocks.len;
     render::render(
         tag,
         count,
@@ -122,6 +126,7 @@ fn read_view(tag: &[u8], view: View, sheet: &mut [u8]) -> ReadAnswer
         &tag[media_at..media_end],
         &tag[second_at..second_end],
         &tag[other_at..other_end],
+        &tag[blocks_at..blocks_end],
         sheet,
     )
 }
@@ -255,7 +260,7 @@ fn edit_stage(
     bytes: &[u8],
 ) -> Stage
     requires { ⌜ (goodSize pageSize (length (now tag)) ≡ true) × Valued (now item) (now isil) (now set) (now usage) (now media) (now second) (now other)
-        × (clash (elements (now item) (now isil) (now set) (now usage) (now media) (now second) (now other) (now carried ∷ [])) ≡ false) ⌝ }
+        × (clash (elements (now item) (now isil) (now set) (now usage) (now media) (now second) (now other) (now carried ∷ [])) ≡ false) × RightCheck (now tag) ⌝ }
     ensures { λ r. ⌜ stageGiven r ≡ inOrder (
         need 13 (layoutIs (elements (now (item .entry)) (now (isil .entry)) (now (set .entry)) (now (usage .entry)) (now (media .entry)) (now (second .entry)) (now (other .entry)) (now (carried .entry) ∷ [])) (now (tag .entry)))
         ∷ need 2 (leb 255 room)
@@ -285,7 +290,7 @@ pub fn edit(tag: &mut [u8], locks: &[u8], number: u32, bytes: &[u8], old: &mut [
     let Stage::Passed = sized else {
         return EditAnswer::Refused(stage_number(sized));
     };
-    // most tags are small, and clearing 2,048 bytes would cost more than copying them
+    // Most tags are small, and clearing 2,048 bytes costs more than copying them.
     if n <= 256 {
         let mut before = [0u8; 256];
         bytes::copy(tag, &mut before);
@@ -328,12 +333,17 @@ fn edit_view<'a>(
     requires { ⌜ Copied (now before) (now tag) (now locks) × (judged (now before) ≡ got tt) × Viewed (now before) view ⌝ }
     ensures { λ r. ⌜ Edits (now (tag .entry)) (now (locks .entry)) number (now (bytes .entry)) (now (old .entry)) r (now (tag .exit)) (now (old .exit)) ⌝ }
 {
+    // In the writer's own layout the carried blocks stand in one piece.
+    let blocks = view.blocks;
+    if blocks.len != view.size {
+        return EditAnswer::Refused(13);
+    }
+    let blocks_at = blocks.at;
+    let blocks_end = blocks_at + blocks.len;
     let prefix = view.prefix;
     let isil = view.isil;
     let mut own = [0u8; 16];
     let n = look::isil_of(before, prefix, isil, &mut own);
-    let mut blocks = [0u8; 2048];
-    let size = render::gather(before, &mut blocks, 0);
     let set = [view.parts, 0, view.ordinal, 0];
     let usage = [view.usage];
     let item = view.item;
@@ -356,7 +366,7 @@ fn edit_view<'a>(
         &before[media_at..media_end],
         &before[second_at..second_end],
         &before[other_at..other_end],
-        &blocks[0..size],
+        &before[blocks_at..blocks_end],
         tag,
         locks,
         number,

@@ -8,6 +8,7 @@ use Rattle.format.specs.Elements.{value}
 use Rattle.format.proofs.Tests.{and-l}
 use Rattle.tag.specs.Stages.{stageGiven, stageNumber}
 use Rattle.tag.specs.Stages.{laidNumber}
+use Rattle.tag.proofs.Seen.{seen-readable}
 use Rattle.tag.proofs.Editor.{Picked, picks-valued, picks-lays, held, held-valued, rowed-clear, late-edits, late-value, late-old, laid-refused-edits, laid-done-edits, held-element}
 use borrow.Author.Needs.{needs}
 use Rattle.tag.proofs.edit_elements.Statement.{statement}
@@ -19,7 +20,7 @@ edit-stage-requires c κs =
     let a = s .args in
     let t = a .tag .now in
     let h = s .pre in
-    (and-l _ _ (h .sized), held-valued t (a .locks .now) (a .item .now) (a .isil .now) (a .set .now) (a .usage .now) (a .media .now) (a .second .now) (a .other .now) (a .carried .now) h, rowed-clear t (a .locks .now) (a .item .now) (a .isil .now) (a .set .now) (a .usage .now) (a .media .now) (a .second .now) (a .other .now) (a .carried .now) h)
+    (and-l _ _ (h .sized), held-valued t (a .locks .now) (a .item .now) (a .isil .now) (a .set .now) (a .usage .now) (a .media .now) (a .second .now) (a .other .now) (a .carried .now) h, rowed-clear t (a .locks .now) (a .item .now) (a .isil .now) (a .set .now) (a .usage .now) (a .media .now) (a .second .now) (a .other .now) (a .carried .now) h, seen-readable t (h .seen) .check)
 
 enum-told : tie.Need-enum-told
 enum-told c = search needs
