@@ -2,7 +2,7 @@
 use mathlib.Core.Path.{_≡_, refl, sym, ap, _∙_}
 use Prim.Native.Nat.{ℕ, _+_, _-_, _≤_, _<_}
 use native.Mathlib.Omega.{arith}
-use mathlib.Core.Bool.{Bool, true, false, not, _&&_}
+use mathlib.Core.Bool.{Bool, true, false, not, _&&_, and-true}
 use mathlib.Core.List.{List, [], _∷_}
 use lib.Dec.{leb}
 use lib.ListN.{length}
@@ -35,10 +35,6 @@ no-shape n s a b c d e f g h = rw (ne-eqb n 1 a, ne-eqb n 3 b, ne-eqb n 4 c, ne-
 pub form-short : (n : ℕ) (s : List ℕ) → length s ≤ 255 → shape n s ≡ form n s
 unfolding form
 form-short n s h = sym (rw (le-leb (length s) 255 h) (and-true (shape n s)))
-  where
-    and-true : (t : Bool) → t && true ≡ t
-    and-true true = refl
-    and-true false = refl
 
 pub form-long : (n : ℕ) (s : List ℕ) → 255 < length s → false ≡ form n s
 unfolding form

@@ -1,7 +1,7 @@
 -- What the loops of this crate know at each turn, and how a turn keeps it: each byte passes a test, the first of a byte is sought,
 -- the 00 at the end are left out.
 use mathlib.Core.Path.{_≡_, refl, sym, ap, _∙_}
-use Prim.Native.Nat.{ℕ, zero, suc, _+_, _-_, _≤_, _<_}
+use Prim.Native.Nat.{ℕ, suc, _+_, _-_, _≤_, _<_}
 use native.Mathlib.Omega.{arith}
 use native.Mathlib.Nat.{zero-add}
 use native.Mathlib.Numerals.{add-one}
@@ -11,7 +11,7 @@ use lib.ListN.{length, take, drop, getD, drop-of-length-le}
 use lib.Seq.{drop-cons, take-suc, take-length, length-take-le}
 use borrow.Author.Tests.{eq-eqb, ne-eqb}
 use Rattle.format.specs.Bytes.{all, trim, strip, upTo}
-use Rattle.format.proofs.Strings.{strip-append}
+use Rattle.format.proofs.Strings.{strip-append, strip-behind, trim-other}
 
 -- ---- each byte passes a test
 
@@ -78,19 +78,6 @@ pub record Stripping (s : List ℕ) (n : ℕ) : Type 0 where
   pub inside : n ≤ length s
   pub kept : strip (take n s) ≡ strip s
 
-trim-more : (x y : ℕ) (ys : List ℕ) → trim x (y ∷ ys) ≡ x ∷ y ∷ ys
-unfolding trim
-trim-more zero y ys = refl
-trim-more (suc x) y ys = refl
-
--- a string that ends with another byte keeps all
-strip-ends : (s : List ℕ) (x : ℕ) → (x ≡ 0 → ⊥) → strip (s ++ x ∷ []) ≡ s ++ x ∷ []
-unfolding strip trim
-strip-ends [] zero h = absurd (h refl)
-strip-ends [] (suc x) h = refl
-strip-ends (y ∷ []) x h = ap (trim y) (strip-ends [] x h) ∙ trim-more y x []
-strip-ends (y ∷ z ∷ s) x h = ap (trim y) (strip-ends (z ∷ s) x h) ∙ trim-more y z (s ++ x ∷ [])
-
 module _ (s : List ℕ) where
   pub stripping-start : Stripping s (length s)
   stripping-start = record { inside = omega arith; kept = ap strip (take-length s) }
@@ -109,11 +96,12 @@ module _ (s : List ℕ) where
       }
 
   pub stripping-stop : (n : ℕ) → Stripping s n → 0 < n → (getD s (n - 1) 0 ≡ 0 → ⊥) → n ≡ length (strip s)
+  unfolding strip
   stripping-stop n p h e =
       let m : suc (n - 1) ≡ n = omega arith in
       let l : n - 1 < length s = omega (arith, p .inside) in
       let t : take n s ≡ take (n - 1) s ++ (getD s (n - 1) 0 ∷ []) = sym (ap (λ (k : ℕ). take k s) m) ∙ take-suc s (n - 1) 0 l in
-      let k : strip s ≡ take n s = sym (p .kept) ∙ ap strip t ∙ strip-ends (take (n - 1) s) (getD s (n - 1) 0) e ∙ sym t in
+      let k : strip s ≡ take n s = sym (p .kept) ∙ ap strip t ∙ strip-behind (take (n - 1) s) (getD s (n - 1) 0 ∷ []) (λ z. omega arith) (trim-other (getD s (n - 1) 0) [] e) ∙ sym t in
       sym (ap length k ∙ length-take-le n s (p .inside))
 
   pub stripping-none : (n : ℕ) → Stripping s n → n ≤ 0 → 0 ≡ length (strip s)

@@ -5,15 +5,15 @@ use native.Mathlib.Omega.{arith}
 use mathlib.Core.Bool.{Bool, true, false, _||_}
 use mathlib.Core.List.{List, [], _∷_, _++_}
 use lib.ListN.{length, take, drop, getD, length-take, length-drop}
-use lib.Seq.{drop-drop, take-take, getD-drop}
+use lib.Seq.{drop-drop, take-take}
 use lib.Dec.{eqb, leb}
 use borrow.Author.Tests.{eqb-false, ne-eqb, le-leb, lt-leb}
 use Rattle.format.specs.Bytes.{if_then_else_, isEmpty, all, same, part, trim, strip, upTo, past}
 use Rattle.format.specs.Fields.{text, capital, isilOf, hyphen, blank, alternate, alternative, marker, marked, goodItem, prefixIn, ownerSaid, goodOwner}
 use Rattle.format.specs.Chain.{payload, libraryIn, goodLibrary}
 use Rattle.format.proofs.Tests.{never, and-l, or-l, or-r, or-f, same-eq}
-use Rattle.format.proofs.Strings.{empty-of}
-use Rattle.format.proofs.Fields.{capital-ge, alternative-facts, isil-facts}
+use Rattle.format.proofs.Strings.{empty-of, some-behind}
+use Rattle.format.proofs.Fields.{capital-ge, alternative-facts, isil-facts, marker-third}
 use Rattle.fields.specs.declared.ItemField.{ItemField}
 use Rattle.fields.specs.declared.ItemField.the-variants as item
 use Rattle.fields.specs.declared.OwnerField.{OwnerField}
@@ -24,14 +24,6 @@ use Rattle.fields.specs.declared.LibraryField.the-variants as library
 use Rattle.fields.specs.Forms.{itemForm, ownerForm, partsOf, libraryForm}
 
 -- ---- parts of a string
-
-pub is-empty : (s : List ℕ) → length s ≡ 0 → isEmpty s ≡ true
-is-empty [] h = refl
-is-empty (x ∷ s) h = absurd (omega arith)
-
-pub not-empty : (s : List ℕ) → (length s ≡ 0 → ⊥) → isEmpty s ≡ false
-not-empty [] h = absurd (h refl)
-not-empty (x ∷ s) h = refl
 
 -- r is the front of s
 abbrev pub Front : List ℕ → List ℕ → Type 0
@@ -128,15 +120,6 @@ item-says f e = subst (ItemSays f) (sym e) (go (marked t) refl (text t) refl)
         record { good = or-l (text t) (marked t) hx; unmarked = hm; is = strip-take f; inside = front-within t f (strip-take f) }
     go false hm false hx = or-f hx hm
 
--- a field that breaks its form is told as one
-pub item-bad : (f : List ℕ) → goodItem (strip f) ≡ false → itemForm f ≡ item.Bad
-item-bad f h = go (itemForm f) refl
-  where
-    go : (r : ItemField) → r ≡ itemForm f → r ≡ item.Bad
-    go (item.Text n) e = never (cc (item-says f e .good))
-    go item.Marked e = never (cc (item-says f e .good))
-    go item.Bad e = refl
-
 -- ---- the owner field
 
 pub record NoOwner (f : List ℕ) : Type 0 where
@@ -175,15 +158,6 @@ OwnerSays f owner.Marked = MarkedOwner f
 OwnerSays f (owner.Alternative n) = AlternativeOwner f n
 OwnerSays f (owner.Isil p u) = IsilOwner f p u
 OwnerSays f owner.Bad = goodOwner (strip f) ≡ false
-
--- where the second part of a string is the marker, its third byte is 01
-marker-third : (t : List ℕ) → drop 2 t ≡ marker → getD t 2 0 ≡ 1
-marker-third t e = sym (getD-drop 2 t 0 0) ∙ ap (λ (l : List ℕ). getD l 0 0) e
-
-second-some : (s : List ℕ) → isEmpty (drop 1 s) ≡ false → 1 < length s
-second-some [] e = never (cc)
-second-some (x ∷ []) e = never (cc)
-second-some (x ∷ y ∷ s) e = omega arith
 
 -- what begins with a capital is neither an alternative owner nor the marker
 capital-first : (p r : List ℕ) → 1 ≤ length p → all capital p ≡ true → (alternate (p ++ r) ≡ false) × (marked (p ++ r) ≡ false)
@@ -243,7 +217,7 @@ module _ (f : List ℕ) where
       → AlternativeOwner f (length (drop 2 t))
   alternative-owner e m l a =
       let g = alternative-facts (drop 2 t) a in
-      let n : 1 < length (drop 2 t) = second-some (drop 2 t) (g .some) in
+      let n : 1 < length (drop 2 t) = some-behind 1 (drop 2 t) (g .some) in
       record {
         good = judged-owner e m ∙ rw l a;
         said = said-low l ∙ rest-is;
@@ -296,17 +270,6 @@ owner-says f e =
     go false hx false hm true hl false ha i hi = judged-owner f hx hm ∙ rw hl ha
     go false hx false hm false hl a ha true hi = isil-owner f hx hm hl hi
     go false hx false hm false hl a ha false hi = judged-owner f hx hm ∙ rw hl hi
-
--- a field that breaks its form is told as one
-pub owner-bad : (f : List ℕ) → goodOwner (strip f) ≡ false → ownerForm f ≡ owner.Bad
-owner-bad f h = go (ownerForm f) refl
-  where
-    go : (r : OwnerField) → r ≡ ownerForm f → r ≡ owner.Bad
-    go owner.Nothing e = never (cc (owner-says f e .good))
-    go owner.Marked e = never (cc (owner-says f e .good))
-    go (owner.Alternative n) e = never (cc (owner-says f e .good))
-    go (owner.Isil p u) e = never (cc (owner-says f e .good))
-    go owner.Bad e = refl
 
 -- ---- block 1
 
@@ -390,8 +353,3 @@ library-says b e = subst (LibrarySays b) (sym e) (go (goodLibrary b) refl)
     go : (g : Bool) → goodLibrary b ≡ g → LibrarySays b (if g then library.Good (partsOf b) else library.Bad)
     go true h = good-library b h
     go false h = h
-
--- a block 1 with a bad field is told as one
-pub library-bad : (b : List ℕ) → goodLibrary b ≡ false → libraryForm b ≡ library.Bad
-unfolding libraryForm
-library-bad b h = rw h refl

@@ -9,9 +9,8 @@ use mathlib.Core.List.{List, [], _∷_, _++_}
 use lib.Dec.{leb}
 use lib.Bits.{bitXor, xor-lt, xor-shr, xor-mod, xor-block, xor-shifted, xor-comm}
 use borrow.Author.Tests.{leb-true, leb-false, lt-leb}
-use Rattle.format.specs.Bytes.{if_then_else_, all, bytes}
-use Rattle.format.specs.Crc.{polynomial, crcBit, crcBits, crcByte, crcFrom, crc}
-use Rattle.format.proofs.Tests.{and-l, and-r}
+use Rattle.format.specs.Bytes.{if_then_else_}
+use Rattle.format.specs.Crc.{polynomial, crcBit, crcBits, crcByte, crcFrom}
 use Rattle.format.proofs.Xor.{xor-swap}
 
 -- ---- one bit
@@ -68,11 +67,6 @@ bit-low r h = rw (lt-leb 32768 r h)
 
 -- ---- n bits
 
-pub bits-lt : (n r : ℕ) → r < 65536 → crcBits n r < 65536
-unfolding crcBits
-bits-lt zero r h = h
-bits-lt (suc n) r h = bits-lt n (crcBit r) (bit-lt r h)
-
 pub bits-xor : (n x y : ℕ) → x < 65536 → y < 65536 → crcBits n (bitXor x y) ≡ bitXor (crcBits n x) (crcBits n y)
 unfolding crcBits
 bits-xor zero x y hx hy = refl
@@ -93,11 +87,6 @@ bits-low r h =
     ∙ omega arith
 
 -- ---- a byte
-
--- the remainder of byte k: what it leaves in an empty register
-pub remainder : (k : ℕ) → crcByte 0 k ≡ crcBits 8 (k * 256)
-unfolding crcByte
-remainder k = refl
 
 -- eight bits by a table: the low byte moved up, and the remainder of the high byte
 pub bits-by-table : (x : ℕ) → x < 65536 → crcBits 8 x ≡ bitXor (x * 256 % 65536) (crcByte 0 (x / 256))
@@ -120,24 +109,9 @@ pub byte-by-table : (r b : ℕ) → r < 65536 → b < 256
 unfolding crcByte
 byte-by-table r b hr hb = bits-by-table (bitXor r (b * 256)) (met-lt r b hr hb)
 
-pub byte-lt : (r b : ℕ) → r < 65536 → b < 256 → crcByte r b < 65536
-unfolding crcByte
-byte-lt r b hr hb = bits-lt 8 (bitXor r (b * 256)) (met-lt r b hr hb)
-
 -- ---- a string
 
 pub from-append : (r : ℕ) (s t : List ℕ) → crcFrom r (s ++ t) ≡ crcFrom (crcFrom r s) t
 unfolding crcFrom
 from-append r [] t = refl
 from-append r (b ∷ s) t = from-append (crcByte r b) s t
-
-pub from-lt : (r : ℕ) (s : List ℕ) → r < 65536 → bytes s ≡ true → crcFrom r s < 65536
-unfolding crcFrom all
-from-lt r [] h e = h
-from-lt r (b ∷ s) h e =
-    let hb : b < 256 = omega (arith, leb-true b 255 (and-l (leb b 255) (bytes s) e)) in
-    from-lt (crcByte r b) s (byte-lt r b h hb) (and-r (leb b 255) (bytes s) e)
-
-pub crc-lt : (s : List ℕ) → bytes s ≡ true → crc s < 65536
-unfolding crc
-crc-lt s e = from-lt 0xFFFF s (omega arith) e

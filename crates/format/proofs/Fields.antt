@@ -7,11 +7,12 @@ use mathlib.Core.Bool.{Bool, true, false, not, _&&_, _||_}
 use mathlib.Core.List.{List, [], _∷_, _++_}
 use lib.Dec.{eqb, leb}
 use lib.ListN.{length, drop, getD}
+use lib.Seq.{getD-drop}
 use borrow.Author.Tests.{ne-eqb, leb-true, le-leb, lt-leb, leb-false}
 use Rattle.format.specs.Bytes.{if_then_else_, isEmpty, all, same, padWith, trim, strip, upTo, past}
 use Rattle.format.specs.Fields.{textByte, text, capital, unitByte, isilOf, isil, hyphen, blank, alternate, alternative, isOwner, marker, marked, goodItem, prefixIn, ownerSaid, goodOwner, long, itemField, packed, basicOwner, ownerField}
-use Rattle.format.proofs.Tests.{never, and-l, and-r, and-i, and-iff, not-t, or-l, or-r, if-inv, all-mono, all-append}
-use Rattle.format.proofs.Strings.{other, without, solid, solid-strip, strip-pad, strip-cons, parted}
+use Rattle.format.proofs.Tests.{never, and-l, and-r, and-i, and-iff, not-t, or-l, or-r, or-inv, if-inv, all-mono, all-append, same-eq}
+use Rattle.format.proofs.Strings.{empty-of, other, without, solid, not-empty, solid-strip, strip-pad, strip-behind, parted}
 
 -- ---- bytes
 
@@ -90,9 +91,6 @@ alternative-facts o e =
 first-alternate : (o : List ℕ) → alternate o ≡ true → (2 ≤ getD o 0 0) × (getD o 0 0 ≤ 3)
 first-alternate o e = (leb-true 2 (getD o 0 0) (and-l (leb 2 (getD o 0 0)) (leb (getD o 0 0) 3) e), leb-true (getD o 0 0) 3 (and-r (leb 2 (getD o 0 0)) (leb (getD o 0 0) 3) e))
 
-not-alternate : (x : ℕ) (s : List ℕ) → 3 < x → alternate (x ∷ s) ≡ false
-not-alternate x s h = rw (le-leb 2 x (omega arith), lt-leb x 3 h)
-
 -- ---- an ISIL
 
 pub record Isil (prefix unit : List ℕ) : Type 0 where
@@ -114,14 +112,10 @@ capitals-solid s e = above capital 0 (λ x h. omega (arith, capital-ge x h)) s e
 units-solid : (s : List ℕ) → all unitByte s ≡ true → solid s ≡ true
 units-solid s e = above unitByte 0 (λ x h. omega (arith, unit-ge x h)) s e
 
-some-of : {A : Type 0} (s : List A) → 1 ≤ length s → isEmpty s ≡ false
-some-of [] h = absurd (omega arith)
-some-of (x ∷ s) h = refl
-
 -- its sides and the hyphen are the whole
 pub isil-whole : (o : List ℕ) → isil o ≡ true → o ≡ upTo hyphen o ++ hyphen ∷ past hyphen o
 unfolding isil
-isil-whole o e = parted hyphen o (some-of (past hyphen o) (isil-facts (upTo hyphen o) (past hyphen o) e .unit-some))
+isil-whole o e = parted hyphen o (not-empty (past hyphen o) (λ z. omega (arith, z, isil-facts (upTo hyphen o) (past hyphen o) e .unit-some)))
 
 first-capital : (o : List ℕ) → isil o ≡ true → (65 ≤ getD o 0 0) × (isEmpty o ≡ false)
 unfolding isil all
@@ -180,6 +174,26 @@ owner-facts o e = elim (if-inv (alternate o) (alternative o) (isil o) e) [ inl h
 
 -- ---- the owner field
 
+-- where the marker stands behind two bytes, it is the third
+pub marker-third : (t : List ℕ) → drop 2 t ≡ marker → getD t 2 0 ≡ 1
+marker-third t e = sym (getD-drop 2 t 0 0) ∙ ap (λ (l : List ℕ). getD l 0 0) e
+
+-- what a good field says: nothing, the marker, an alternative owner or an ISIL
+pub said-cases : (t : List ℕ) → goodOwner t ≡ true
+    → (ownerSaid t ≡ []) ⊎ ((ownerSaid t ≡ marker) ⊎ (((ownerSaid t ≡ drop 2 t) × (alternative (drop 2 t) ≡ true))
+    ⊎ ((ownerSaid t ≡ prefixIn t ++ (hyphen ∷ drop 2 t)) × (isilOf (prefixIn t) (drop 2 t) ≡ true))))
+unfolding goodOwner ownerSaid
+said-cases t e = elim (or-inv (isEmpty t || marked (drop 2 t)) _ e) [
+  | inl h ↦ elim (or-inv (isEmpty t) (marked (drop 2 t)) h) [
+    | inl q ↦ inl (rw (empty-of t q) refl)
+    | inr q ↦ let m = same-eq (drop 2 t) marker q in inr (inl (rw (marker-third t m) m))
+  ]
+  | inr h ↦ elim (if-inv (leb (getD t 2 0) 3) (alternative (drop 2 t)) (isilOf (prefixIn t) (drop 2 t)) h) [
+    | inl q ↦ inr (inr (inl (rw (q .0) refl, q .1)))
+    | inr q ↦ inr (inr (inr (rw (q .0) refl, q .1)))
+  ]
+]
+
 -- read as a good field that says o
 abbrev Says : List ℕ → List ℕ → Type 0
 Says t o = (goodOwner t ≡ true) × (ownerSaid t ≡ o)
@@ -191,7 +205,7 @@ alternative-back (b ∷ s) e =
     let f = alternative-facts (b ∷ s) e in
     let g = first-alternate (b ∷ s) (f .kind) in
     let l : leb b 3 ≡ true = le-leb b 3 (g .1) in (
-      strip-cons 0 0 (b ∷ s) (strip-cons 0 b s (solid-strip (b ∷ s) (alternative-owner (b ∷ s) e .solid-all))),
+      strip-behind (0 ∷ 0 ∷ []) (b ∷ s) (λ z. omega arith) (solid-strip (b ∷ s) (alternative-owner (b ∷ s) e .solid-all)),
       (rw l (or-r (marked (b ∷ s)) (alternative (b ∷ s)) e), rw l),
     )
 

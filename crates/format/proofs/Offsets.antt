@@ -72,7 +72,7 @@ module _ (p : ℕ) (t : List ℕ) (y : bytes t ≡ true) (g : goodSize p (length
       total (length (sheetOf (a ++ b))) (length (a ++ b)) (length (bodies (a ++ b))) (length a) (length b) (length (bodies a)) (length (bodies b))
       (length (c .carried)) (length (joined (c .carried)))
       (length-sheet (a ++ b)) (length-append a b) (bodies-append a b) (st .1) (st .0) (ct .1) (ct .0) (carried-count (c .carried) (k .blocks))
-      (omega (arith, others-le (blocksIn t), blocks-total p t y g r, size-most p (length t) g))
+      (omega (arith, others-le (blocksIn t), blocks-total t r, size-most p (length t) g))
     where
       total : (l n m na nb ma mb nc jc : ℕ) → l ≡ 2 + 4 * n + m → n ≡ na + nb → m ≡ ma + mb → na ≤ 7 → ma ≤ 1785 → nb ≡ nc → mb ≡ jc → 3 * nc ≤ jc → jc ≤ 2048 → l ≤ 8192
       total l n m na nb ma mb nc jc s a b c d e f g h = omega arith

@@ -6,7 +6,7 @@ use native.Mathlib.Nat.{add-zero, zero-add}
 use native.Mathlib.Omega.{arith}
 use native.Mathlib.Numerals.{add-one}
 use lib.ListN.{length, take, drop, set, length-append, length-take, length-drop, take-append-drop, drop-of-length-le}
-use lib.Seq.{set-split, take-at, drop-at, drop-drop, take-length, length-take-le}
+use lib.Seq.{set-split, take-at, drop-at, drop-drop, take-length, take-append-seam, length-take-le}
 use Rattle.format.specs.Bytes.{filled}
 use Rattle.format.specs.Pieces.{stored}
 
@@ -58,3 +58,13 @@ stored-front o d p r s = (s .0 ∙ zero-add (length p), s .1 ∙ ap (λ (n : ℕ
 -- one byte
 pub stored-byte : (o : List ℕ) (at b : ℕ) → at < length o → stored o at (b ∷ []) (at + 1) (set o at b)
 stored-byte o at b h = (refl, rw add-one (set-split o at b h))
+
+-- ---- a buffer whose front is filled
+
+module _ (p o d : List ℕ) (r : ℕ) (long : r ≡ length p) (is : d ≡ filled p o) where
+  pub filled-within : r ≤ length d
+  filled-within = omega (arith, ap length is, length-append p (drop (length p) o))
+
+  -- the front as code takes it
+  pub filled-front : take (r - 0) d ≡ p
+  filled-front = let k : r - 0 ≡ length p = omega arith in ap₂ take k is ∙ take-append-seam p (drop (length p) o)

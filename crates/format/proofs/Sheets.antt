@@ -1,10 +1,10 @@
 -- A sheet and its entries: each gives the other back.
 use mathlib.Core.Path.{_≡_, refl, ap, ap₂, _∙_}
-use Prim.Native.Nat.{ℕ, suc, _+_, _-_, _*_, _<_}
+use Prim.Native.Nat.{ℕ, zero, suc, _+_, _-_, _*_, _<_}
 use native.Mathlib.Omega.{arith}
 use mathlib.Core.Bool.{Bool, true, _&&_}
 use mathlib.Core.List.{List, [], _∷_, _++_}
-use lib.ListN.{length, drop, length-append}
+use lib.ListN.{length, drop, getD, length-append}
 use borrow.Author.Tests.{leb-true}
 use lib.Seq.{take-append-seam, drop-append-seam, drop-at}
 use Rattle.format.specs.Bytes.{same, le16}
@@ -20,6 +20,11 @@ length-heads at (e ∷ es) = omega (arith, length-heads (at + length (e .bytes))
 pub length-sheet : (es : List Entry) → length (sheetOf es) ≡ bodyAt (length es) + length (bodies es)
 unfolding sheetOf le16
 length-sheet es = omega (arith, length-append (heads (bodyAt (length es)) es) (bodies es), length-heads (bodyAt (length es)) es)
+
+pub length-cut : (k : ℕ) (h b : List ℕ) → length (cut k h b) ≡ k
+unfolding cut
+length-cut zero h b = refl
+length-cut (suc k) h b = ap suc (length-cut k (drop 4 h) (drop (getD h 3 0) b))
 
 -- the entries are cut as they were laid
 cut-laid : (at : ℕ) (es : List Entry) (x : List ℕ) → cut (length es) (heads at es ++ x) (bodies es) ≡ es

@@ -4,24 +4,23 @@ use mathlib.Core.Logic.{_⊎_, inl, inr}
 use Prim.Native.Nat.{ℕ, zero, suc, _+_, _-_, _*_, _%_, _≤_}
 use native.Mathlib.Nat.{le-refl}
 use native.Mathlib.Omega.{arith}
-use mathlib.Core.Bool.{Bool, true, false, not, _&&_, _||_, Bool·beq}
+use mathlib.Core.Bool.{Bool, true, false, _||_}
 use mathlib.Core.List.{List, [], _∷_, _++_}
-use lib.Dec.{eqb, leb}
+use lib.Dec.{eqb}
 use lib.ListN.{length, take, drop, getD, length-take, length-drop, length-append}
 use borrow.Author.Tests.{eqb-true, le-leb, lt-leb}
-use Rattle.format.specs.Answers.{got, need, andThen}
-use Rattle.format.specs.Bytes.{if_then_else_, isEmpty, bytes, part, padWith, strip, trim, upTo, past, joined}
+use Rattle.format.specs.Answers.{got}
+use Rattle.format.specs.Bytes.{if_then_else_, isEmpty, bytes, same, part, padWith, strip, trim, upTo, past, joined}
 use Rattle.format.specs.Pages.{goodSize}
-use Rattle.format.specs.Fields.{isilOf, hyphen, blank, alternate, alternative, marker, marked, prefixIn, ownerSaid, goodOwner, long, packed, basicOwner}
-use Rattle.format.specs.Chain.{wellFormed, isLibrary, walk, chain, libraryBlock, otherBlocks, Library, payload, lastField, libraryIn, libraryBytes, sealed, blockOne}
+use Rattle.format.specs.Fields.{isilOf, hyphen, blank, alternate, alternative, marked, prefixIn, ownerSaid, goodOwner, long, packed, basicOwner}
+use Rattle.format.specs.Chain.{isLibrary, walk, chain, libraryBlock, otherBlocks, Library, payload, lastField, libraryIn, libraryBytes, sealed, blockOne}
 use Rattle.format.specs.Elements.{Content, numbers, placeIn, place}
 use Rattle.format.specs.Layout.{ownerWidth, ownerOf, library, basic, laidOut, fits}
 use Rattle.format.specs.Reading.{mainUsage, itemIn, ownerIn, blocksIn, libraryOn, ownerOn, contentIn, Readable}
-use Rattle.format.proofs.Tests.{never, and-i, or-inv, or-r, same-eq}
-use Rattle.format.proofs.Answers.{then-inv, got-inj}
-use Rattle.format.proofs.Strings.{empty-of, part-length, strip-length, strip-strip, length-pad, up-to-before, past-before}
-use Rattle.format.proofs.Fields.{isil-facts, isil-first, alternative-facts}
-use Rattle.format.proofs.Blocks.{sealed-length}
+use Rattle.format.proofs.Tests.{never, beq-false, and-i, or-r}
+use Rattle.format.proofs.Strings.{some-behind, part-length, strip-length, strip-strip, length-pad, up-to-before, past-before}
+use Rattle.format.proofs.Fields.{isil-facts, isil-first, alternative-facts, said-cases}
+use Rattle.format.proofs.Blocks.{sealed-length, walk-induct}
 use Rattle.format.proofs.Layouts.{basic-length, size-cases}
 use Rattle.format.proofs.Sound.{capitals-unhyphened, isil-made, prefix-length, fields-parts, agree-owner, library-tests, library-short, blocks-handed}
 
@@ -138,50 +137,21 @@ alternative-basic : (w : ℕ) (o : List ℕ) → alternative o ≡ true → 2 + 
 unfolding basicOwner packed
 alternative-basic w o e h = rw (alternative-facts o e .kind) (le-leb (length (0 ∷ 0 ∷ o)) w (omega arith))
 
-some-two : (t : List ℕ) → isEmpty (drop 2 t) ≡ false → 2 + length (drop 2 t) ≡ length t
-some-two [] e = never (cc)
-some-two (a ∷ []) e = never (cc)
-some-two (a ∷ b ∷ t) e = omega arith
-
-some-drop : (o : List ℕ) → isEmpty (drop 1 o) ≡ false → isEmpty o ≡ false
-some-drop [] e = e
-some-drop (x ∷ o) e = refl
-
-some-long : (u : List ℕ) → 1 ≤ length u → isEmpty u ≡ false
-some-long [] h = absurd (omega arith)
-some-long (x ∷ u) h = refl
-
 -- what a good owner field says, if not the marker, the basic forms hold again
 said-basic : (w : ℕ) (t : List ℕ) → goodOwner t ≡ true → marked (ownerSaid t) ≡ false → length t ≤ w → isEmpty (ownerSaid t) || basicOwner w (ownerSaid t) ≡ true
-unfolding goodOwner ownerSaid
-said-basic w t e m l = elim (or-inv (isEmpty t || marked (drop 2 t)) _ e) [
-  | inl h ↦ elim (or-inv (isEmpty t) (marked (drop 2 t)) h) [
-    | inl q ↦ rw (empty-of t q) refl
-    | inr q ↦ never (cc (q, rw (third t (same-eq (drop 2 t) marker q)) at m))
-  ]
-  | inr h ↦ go (leb (getD t 2 0) 3) h
+unfolding same
+said-basic w t e m l = elim (said-cases t e) [
+  | inl q ↦ rw q
+  | inr (inl q) ↦ never (cc (rw q at m))
+  | inr (inr (inl q)) ↦
+      let s = some-behind 1 (drop 2 t) (alternative-facts (drop 2 t) (q .1) .some) in
+      rw (q .0) (or-r (isEmpty (drop 2 t)) _ (alternative-basic w (drop 2 t) (q .1) (omega (arith, length-drop 2 t))))
+  | inr (inr (inr q)) ↦
+      let s = isil-facts (prefixIn t) (drop 2 t) (q .1) .unit-some in
+      rw (q .0) (or-r (isEmpty (prefixIn t ++ (hyphen ∷ drop 2 t))) _ (isil-basic w (prefixIn t) (drop 2 t) (q .1) (prefix-length t) (omega (arith, length-drop 2 t))))
 ]
-  where
-    third : (t : List ℕ) → drop 2 t ≡ marker → leb (getD t 2 0) 3 ≡ true
-    third [] m = refl
-    third (a ∷ []) m = refl
-    third (a ∷ b ∷ []) m = refl
-    third (a ∷ b ∷ c ∷ t) m = let q : c ≡ 1 = cc in rw q
-
-    go : (x : Bool) → (if x then alternative (drop 2 t) else isilOf (prefixIn t) (drop 2 t)) ≡ true
-        → let o : List ℕ = if x then drop 2 t else prefixIn t ++ (hyphen ∷ drop 2 t) in isEmpty o || basicOwner w o ≡ true
-    go true q =
-        let s = some-drop (drop 2 t) (alternative-facts (drop 2 t) q .some) in
-        or-r (isEmpty (drop 2 t)) _ (alternative-basic w (drop 2 t) q (omega (arith, some-two t s)))
-    go false q =
-        let s = some-long (drop 2 t) (isil-facts (prefixIn t) (drop 2 t) q .unit-some) in
-        or-r (isEmpty (prefixIn t ++ (hyphen ∷ drop 2 t))) _ (isil-basic w (prefixIn t) (drop 2 t) q (prefix-length t) (omega (arith, some-two t s)))
 
 -- ---- the fields of block 1 that are laid down again
-
-beq-false : (x : Bool) → Bool·beq x false ≡ true → x ≡ false
-beq-false true e = sym e
-beq-false false e = refl
 
 module _ (t : List ℕ) (r : Readable t) where
   abbrev c : Content
@@ -296,40 +266,24 @@ split-total (b ∷ bs) = go (isLibrary b) (split-total bs)
     go true ih = omega (arith, length-append b (joined bs), others-le bs)
     go false ih = omega (arith, length-append b (joined bs), length-append b (joined (otherBlocks bs)))
 
-pub walk-total : (g : ℕ) (seen : Bool) (s : List ℕ) (bs : List (List ℕ)) → walk g seen s ≡ got bs → length (joined bs) ≤ length s
-unfolding walk joined
-walk-total zero seen s bs e = rw (sym (got-inj e)) (omega arith)
-walk-total (suc g) seen s bs e = go (eqb (getD s 0 0) 0) (eqb (getD s 0 0) 1) e (walk-total g)
-  where
-    n : ℕ
-    n = getD s 0 0
+pub walk-total : (f : ℕ) (seen : Bool) (s : List ℕ) (bs : List (List ℕ)) → walk f seen s ≡ got bs → length (joined bs) ≤ length s
+unfolding joined
+walk-total =
+    walk-induct (λ s bs. length (joined bs) ≤ length s) (λ s. omega arith) (λ s bs ih. omega (arith, ih, length-drop 1 s))
+    (λ s bs w ih. let n : ℕ = getD s 0 0 in omega (arith, ih, length-append (take n s) (joined bs), length-take n s, length-drop n s))
 
-    b : List ℕ
-    b = take n s
-
-    go : (x z : Bool)
-        → (if x then got [] else if z then walk g seen (drop 1 s) else andThen (need 5 (wellFormed b && not (isLibrary b && seen))) λ _. andThen (walk g (isLibrary b || seen) (drop n s)) λ bs. got (b ∷ bs)) ≡ got bs
-        → ((seen : Bool) (s : List ℕ) (bs : List (List ℕ)) → walk g seen s ≡ got bs → length (joined bs) ≤ length s) → length (joined bs) ≤ length s
-    go true z e ih = rw (sym (got-inj e)) (omega arith)
-    go false true e ih = omega (arith, ih seen (drop 1 s) bs e, length-drop 1 s)
-    go false false e ih =
-        let h = then-inv (need 5 (wellFormed b && not (isLibrary b && seen))) _ bs e in
-        let d = then-inv (walk g (isLibrary b || seen) (drop n s)) _ bs (h .2) in
-        let i = ih (isLibrary b || seen) (drop n s) (d .0) (d .1) in
-        rw (sym (got-inj (d .2))) (omega (arith, length-append b (joined (d .0)), i, length-take n s, length-drop n s))
-
--- the carried blocks of a tag have no more bytes than follow its first 34
-pub carried-short : (t : List ℕ) → Readable t → length (joined (otherBlocks (blocksIn t))) ≤ length t - 34
+-- the blocks of a tag have no more bytes than follow its first 34
+pub blocks-total : (t : List ℕ) → Readable t → length (joined (blocksIn t)) ≤ length t - 34
 unfolding chain
-carried-short t r = omega (arith, others-le (blocksIn t), walk-total (length (drop 34 t)) false (drop 34 t) (blocksIn t) (r .blocks), length-drop 34 t)
+blocks-total t r = omega (arith, walk-total (length (drop 34 t)) false (drop 34 t) (blocksIn t) (r .blocks), length-drop 34 t)
+
+-- so have the carried ones
+pub carried-short : (t : List ℕ) → Readable t → length (joined (otherBlocks (blocksIn t))) ≤ length t - 34
+carried-short t r = omega (arith, others-le (blocksIn t), blocks-total t r)
 
 -- ---- the layout of what was read
 
 module _ (p : ℕ) (t : List ℕ) (y : bytes t ≡ true) (g : goodSize p (length t) ≡ true) (r : Readable t) where
-  pub blocks-total : length (joined (blocksIn t)) ≤ length t - 34
-  unfolding chain
-  blocks-total = omega (arith, walk-total (length (drop 34 t)) false (drop 34 t) (blocksIn t) (r .blocks), length-drop 34 t)
-
   own-in-width : length (ownerIn t) ≤ ownerWidth (length t)
   own-in-width = omega (arith, strip-length (part 21 13 t), length-take 13 (drop 21 t), length-drop 21 t)
 
@@ -355,4 +309,4 @@ module _ (p : ℕ) (t : List ℕ) (y : bytes t ≡ true) (g : goodSize p (length
   unfolding fits
   read-fits =
       and-i (le-leb (length (blockOne (library (length t) (contentIn t)))) 255 (omega (arith, block-shorter t r (length t) own-in-width, library-short (blocksIn t) (blocks-handed t y r))))
-      (le-leb (length (laidOut (length t) (contentIn t))) (length t) (omega (arith, laid-shorter, blocks-total, wide .1)))
+      (le-leb (length (laidOut (length t) (contentIn t))) (length t) (omega (arith, laid-shorter, blocks-total t r, wide .1)))

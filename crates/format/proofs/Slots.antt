@@ -7,7 +7,7 @@ use mathlib.Core.Bool.{Bool, true, false, not, _&&_}
 use mathlib.Core.List.{List, [], _∷_}
 use lib.Dec.{eqb, leb, lit<}
 use lib.ListN.{length, getD, set}
-use lib.Seq.{set-set, set-getD, getD-set-same}
+use lib.Seq.{set-set, set-getD}
 use borrow.Author.Tests.{eqb-true, ltb-true}
 use Rattle.format.specs.Bytes.{if_then_else_, isEmpty, all}
 use Rattle.format.specs.Elements.{Content, numbers, placeIn, place, known, el, put, shape, form, value, clash, valuesAt, sound}
@@ -134,10 +134,6 @@ module _ (c : Content) (sc : sound c ≡ true) (n : ℕ) (kn : known n ≡ true)
   put-sound s v k =
       let p = sound-parts c sc in
       parts-sound (put c n s) (record { values = values-set numbers (c .slots) (place n) s (p .values) (rw (known-at n kn .1) v); blocks = p .blocks; clear = k })
-
-  pub got-back : (s : List ℕ) → el (put c n s) n ≡ s
-  unfolding put
-  got-back s = getD-set-same (c .slots) (place n) s [] (omega (arith, values-length numbers (c .slots) (sound-parts c sc .values), known-at n kn .0))
 
 pub put-back : (c : Content) (n : ℕ) (s : List ℕ) → put (put c n s) n (el c n) ≡ c
 unfolding put

@@ -1,23 +1,23 @@
 -- Whatever a readable tag holds is sound: a value for each number, blocks that can be carried, no clash.
-use mathlib.Core.Path.{_≡_, refl, sym, ap, _∙_}
+use mathlib.Core.Path.{_≡_, refl, ap}
 use mathlib.Core.Logic.{_⊎_, inl, inr}
-use Prim.Native.Nat.{ℕ, zero, suc, _+_, _-_, _≤_}
+use Prim.Native.Nat.{ℕ, _+_, _-_, _≤_}
 use native.Mathlib.Omega.{arith}
 use mathlib.Core.Bool.{Bool, true, false, not, _&&_, _||_, Bool·beq}
 use mathlib.Core.List.{List, [], _∷_, _++_}
 use lib.Dec.{eqb, leb}
 use lib.ListN.{length, take, drop, getD, length-take, length-drop, length-append}
 use borrow.Author.Tests.{ne-eqb, leb-true, le-leb, lt-leb}
-use Rattle.format.specs.Answers.{got, need, andThen}
+use Rattle.format.specs.Answers.{got}
 use Rattle.format.specs.Bytes.{if_then_else_, isEmpty, all, bytes, same, part, strip, past}
 use Rattle.format.specs.Fields.{text, capital, isilOf, isil, hyphen, blank, alternate, alternative, isOwner, marker, marked, goodItem, prefixIn, ownerSaid, goodOwner, long}
 use Rattle.format.specs.Chain.{wellFormed, isLibrary, carriable, walk, chain, libraryBlock, otherBlocks, payload, lastField, libraryIn, goodLibrary}
 use Rattle.format.specs.Elements.{numbers, placeIn, place, shape, form, value, clash, valuesAt, sound}
 use Rattle.format.specs.Reading.{itemIn, ownerIn, blocksIn, libraryOn, goodFields, agree, ownerOn, contentIn, Readable}
-use Rattle.format.proofs.Tests.{never, and-l, and-r, and-i, and-no, or-f, or-inv, if-inv, all-drop, bytes-at, same-eq}
-use Rattle.format.proofs.Answers.{need-inv, then-inv, got-inj}
-use Rattle.format.proofs.Strings.{empty-of, part-length, strip-length, up-to-length, past-length, other, without, up-to-before, past-before}
-use Rattle.format.proofs.Fields.{capital-ge, isil-facts, isil-first, alternative-facts}
+use Rattle.format.proofs.Tests.{never, and-l, and-r, and-i, and-no, or-f, or-inv, if-inv, all-drop, bytes-at}
+use Rattle.format.proofs.Strings.{part-length, strip-length, up-to-length, past-length, other, without, up-to-before, past-before}
+use Rattle.format.proofs.Fields.{capital-ge, isil-facts, isil-first, alternative-facts, said-cases}
+use Rattle.format.proofs.Blocks.{walk-induct}
 use Rattle.format.proofs.Slots.{parts-sound}
 use Rattle.format.proofs.Values.{text-value, set-value}
 
@@ -66,24 +66,12 @@ unfolding isOwner
 isil-is o e = rw (isil-first o e .0) e
 
 owner-said : (t : List ℕ) → goodOwner t ≡ true → Said (ownerSaid t)
-unfolding goodOwner ownerSaid
-owner-said t e = elim (or-inv (isEmpty t || marked (drop 2 t)) _ e) [
-  | inl h ↦ elim (or-inv (isEmpty t) (marked (drop 2 t)) h) [
-    | inl q ↦ rw (empty-of t q) (inl refl)
-    | inr q ↦ let m = same-eq (drop 2 t) marker q in rw (third t m) (inr (inl m))
-  ]
-  | inr h ↦ go (leb (getD t 2 0) 3) h
+owner-said t e = elim (said-cases t e) [
+  | inl q ↦ inl q
+  | inr (inl q) ↦ inr (inl q)
+  | inr (inr (inl q)) ↦ inr (inr (rw (q .0) (alternative-is (drop 2 t) (q .1))))
+  | inr (inr (inr q)) ↦ inr (inr (rw (q .0) (isil-is (prefixIn t ++ (hyphen ∷ drop 2 t)) (isil-made (prefixIn t) (drop 2 t) (q .1)))))
 ]
-  where
-    third : (t : List ℕ) → drop 2 t ≡ marker → leb (getD t 2 0) 3 ≡ true
-    third [] m = refl
-    third (a ∷ []) m = refl
-    third (a ∷ b ∷ []) m = refl
-    third (a ∷ b ∷ c ∷ t) m = let q : c ≡ 1 = cc in rw q
-
-    go : (x : Bool) → (if x then alternative (drop 2 t) else isilOf (prefixIn t) (drop 2 t)) ≡ true → Said (if x then drop 2 t else prefixIn t ++ (hyphen ∷ drop 2 t))
-    go true q = inr (inr (alternative-is (drop 2 t) q))
-    go false q = inr (inr (isil-is (prefixIn t ++ (hyphen ∷ drop 2 t)) (isil-made (prefixIn t) (drop 2 t) q)))
 
 -- ---- the blocks
 
@@ -92,28 +80,14 @@ abbrev pub handed : List ℕ → Bool
 handed b = wellFormed b && leb (length b) 255
 
 pub walk-handed : (f : ℕ) (seen : Bool) (s : List ℕ) (bs : List (List ℕ)) → bytes s ≡ true → walk f seen s ≡ got bs → all handed bs ≡ true
-unfolding walk all
-walk-handed zero seen s bs y e = let k : [] ≡ bs = cc in ap (all handed) (sym k)
-walk-handed (suc f) seen s bs y e = go (eqb (getD s 0 0) 0) (eqb (getD s 0 0) 1) e (walk-handed f)
-  where
-    n : ℕ
-    n = getD s 0 0
-
-    b : List ℕ
-    b = take n s
-
-    go : (x z : Bool)
-        → (if x then got [] else if z then walk f seen (drop 1 s) else andThen (need 5 (wellFormed b && not (isLibrary b && seen))) λ _. andThen (walk f (isLibrary b || seen) (drop n s)) λ bs. got (b ∷ bs)) ≡ got bs
-        → ((seen : Bool) (s : List ℕ) (bs : List (List ℕ)) → bytes s ≡ true → walk f seen s ≡ got bs → all handed bs ≡ true) → all handed bs ≡ true
-    go true z e ih = let k : [] ≡ bs = cc in ap (all handed) (sym k)
-    go false true e ih = ih seen (drop 1 s) bs (all-drop (λ b. leb b 255) 1 s y) e
-    go false false e ih =
-        let h = then-inv (need 5 (wellFormed b && not (isLibrary b && seen))) _ bs e in
-        let d = then-inv (walk f (isLibrary b || seen) (drop n s)) _ bs (h .2) in
-        let wb : wellFormed b ≡ true = and-l (wellFormed b) (not (isLibrary b && seen)) (need-inv 5 _ (h .0) (h .1)) in
-        let lb : length b ≤ 255 = omega (arith, length-take n s, bytes-at 0 s y) in
-        ap (all handed) (sym (got-inj (d .2)))
-        ∙ and-i (and-i wb (le-leb (length b) 255 lb)) (ih (isLibrary b || seen) (drop n s) (d .0) (all-drop (λ b. leb b 255) n s y) (d .1))
+unfolding all
+walk-handed f seen s bs y e =
+    walk-induct (λ s bs. bytes s ≡ true → all handed bs ≡ true) (λ s y. refl) (λ s bs ih y. ih (all-drop (λ b. leb b 255) 1 s y))
+    (λ s bs w ih y.
+    let n : ℕ = getD s 0 0 in
+    let short : length (take n s) ≤ 255 = omega (arith, length-take n s, bytes-at 0 s y) in
+    and-i (and-i w (le-leb (length (take n s)) 255 short)) (ih (all-drop (λ b. leb b 255) n s y)))
+    f seen s bs e y
 
 pub library-short : (bs : List (List ℕ)) → all handed bs ≡ true → length (libraryBlock bs) ≤ 255
 unfolding all libraryBlock

@@ -1,14 +1,14 @@
 -- Laws of byte strings: filled, stripped, parted.
-use mathlib.Core.Path.{_≡_, refl, ap, ap₂, _∙_}
+use mathlib.Core.Path.{_≡_, refl, sym, ap, ap₂, _∙_}
 use Prim.Native.Nat.{ℕ, zero, suc, _+_, _-_, _/_, _%_, _≤_, _<_}
 use native.Mathlib.Omega.{arith}
 use mathlib.Core.Bool.{Bool, true, false, not}
 use mathlib.Core.List.{List, [], _∷_, _++_}
-use lib.ListN.{length, drop, getD, replicate, length-append, length-replicate, length-take}
+use lib.ListN.{length, drop, getD, replicate, length-append, length-replicate, length-take, length-drop}
 use lib.Dec.{eqb}
-use borrow.Author.Tests.{eqb-true, eq-eqb, ne-eqb}
+use borrow.Author.Tests.{eqb-true, eqb-false, eq-eqb, ne-eqb}
 use Rattle.format.specs.Bytes.{if_then_else_, isEmpty, all, le16, word, part, padWith, pad, trim, strip, upTo, past}
-use Rattle.format.proofs.Tests.{never, and-l, and-r, and-i, not-t}
+use Rattle.format.proofs.Tests.{never, and-l, and-r, not-t}
 
 -- ---- sixteen bits in two bytes
 
@@ -37,6 +37,20 @@ nil-of (x ∷ l) e = absurd (omega arith)
 pub empty-of : {A : Type 0} (l : List A) → isEmpty l ≡ true → l ≡ []
 empty-of [] e = refl
 empty-of (x ∷ l) e = never (cc)
+
+pub empty-length : {A : Type 0} (l : List A) → isEmpty l ≡ eqb (length l) 0
+empty-length [] = refl
+empty-length (x ∷ l) = sym (ne-eqb (suc (length l)) 0 (omega arith))
+
+pub is-empty : {A : Type 0} (l : List A) → length l ≡ 0 → isEmpty l ≡ true
+is-empty l e = empty-length l ∙ eq-eqb (length l) 0 e
+
+pub not-empty : {A : Type 0} (l : List A) → (length l ≡ 0 → ⊥) → isEmpty l ≡ false
+not-empty l e = empty-length l ∙ ne-eqb (length l) 0 e
+
+-- where something follows k bytes, there are more than k
+pub some-behind : (k : ℕ) (s : List ℕ) → isEmpty (drop k s) ≡ false → k < length s
+some-behind k s e = omega (arith, eqb-false (length (drop k s)) 0 (sym (empty-length (drop k s)) ∙ e), length-drop k s)
 
 pub part-length : (i n : ℕ) (s : List ℕ) → length (part i n s) ≤ n
 part-length i n s = omega (arith, length-take n (drop i s))
@@ -123,11 +137,23 @@ unfolding strip
 strip-strip [] = refl
 strip-strip (x ∷ s) = trim-trim x (strip s) (strip-strip s)
 
--- a string whose end is no 00 keeps it behind more bytes
-pub strip-cons : (x y : ℕ) (s : List ℕ) → strip (y ∷ s) ≡ y ∷ s → strip (x ∷ y ∷ s) ≡ x ∷ y ∷ s
-unfolding strip trim
-strip-cons zero y s e = ap (trim zero) e
-strip-cons (suc x) y s e = ap (λ (r : List ℕ). suc x ∷ r) e
+-- a byte is trimmed only where it is 00 and nothing follows
+pub trim-some : (x : ℕ) (r : List ℕ) → (length r ≡ 0 → ⊥) → trim x r ≡ x ∷ r
+unfolding trim
+trim-some zero [] n = absurd (n refl)
+trim-some zero (y ∷ r) n = refl
+trim-some (suc x) r n = refl
+
+pub trim-other : (x : ℕ) (r : List ℕ) → (x ≡ 0 → ⊥) → trim x r ≡ x ∷ r
+unfolding trim
+trim-other zero r n = absurd (n refl)
+trim-other (suc x) r n = refl
+
+-- what ends in no 00 keeps all that stands before it
+pub strip-behind : (s r : List ℕ) → (length r ≡ 0 → ⊥) → strip r ≡ r → strip (s ++ r) ≡ s ++ r
+unfolding strip
+strip-behind [] r n e = e
+strip-behind (x ∷ s) r n e = ap (trim x) (strip-behind s r n e) ∙ trim-some x (s ++ r) (λ h. n (omega (arith, length-append s r)))
 
 -- ---- parted at a byte
 
@@ -146,11 +172,6 @@ without b s = all (other b) s
 abbrev pub solid : List ℕ → Bool
 solid s = without 0 s
 
-pub up-to-whole : (b : ℕ) (s : List ℕ) → without b s ≡ true → upTo b s ≡ s
-unfolding all upTo
-up-to-whole b [] e = refl
-up-to-whole b (x ∷ s) e = rw (not-t (eqb x b) (and-l (other b x) (without b s) e)) (ap (λ (t : List ℕ). x ∷ t) (up-to-whole b s (and-r (other b x) (without b s) e)))
-
 pub up-to-before : (b : ℕ) (s r : List ℕ) → without b s ≡ true → upTo b (s ++ b ∷ r) ≡ s
 unfolding all upTo
 up-to-before b [] r e = rw (eq-eqb b b refl)
@@ -160,15 +181,6 @@ pub past-before : (b : ℕ) (s r : List ℕ) → without b s ≡ true → past b
 unfolding all past
 past-before b [] r e = rw (eq-eqb b b refl)
 past-before b (x ∷ s) r e = rw (not-t (eqb x b) (and-l (other b x) (without b s) e)) (past-before b s r (and-r (other b x) (without b s) e))
-
-pub up-to-without : (b : ℕ) (s : List ℕ) → without b (upTo b s) ≡ true
-unfolding all upTo
-up-to-without b [] = refl
-up-to-without b (x ∷ s) = go (eqb x b) refl (up-to-without b s)
-  where
-    go : (t : Bool) → eqb x b ≡ t → without b (upTo b s) ≡ true → without b (if t then [] else x ∷ upTo b s) ≡ true
-    go true q h = refl
-    go false q h = and-i (ap not q) h
 
 -- where something follows the b, both sides and the b are the string
 pub parted : (b : ℕ) (s : List ℕ) → isEmpty (past b s) ≡ false → s ≡ upTo b s ++ b ∷ past b s

@@ -4,7 +4,7 @@ use mathlib.Core.Logic.{_↔_, _⊎_, inl, inr}
 use Prim.Native.Nat.{ℕ, zero, suc, _≤_, _<_}
 use native.Mathlib.Nat.{suc-ne-zero}
 use native.Mathlib.Omega.{arith}
-use mathlib.Core.Bool.{Bool, true, false, not, _&&_, _||_}
+use mathlib.Core.Bool.{Bool, true, false, not, _&&_, _||_, Bool·beq}
 use mathlib.Core.List.{List, [], _∷_, _++_}
 use lib.ListN.{length, take, drop, getD}
 use lib.Dec.{eqb, leb}
@@ -65,6 +65,10 @@ or-r false y e = e
 pub if-inv : (t x y : Bool) → (if t then x else y) ≡ true → ((t ≡ true) × (x ≡ true)) ⊎ ((t ≡ false) × (y ≡ true))
 if-inv true x y e = inl (refl, e)
 if-inv false x y e = inr (refl, e)
+
+pub beq-false : (x : Bool) → Bool·beq x false ≡ true → x ≡ false
+beq-false true e = sym e
+beq-false false e = refl
 
 -- ---- all
 

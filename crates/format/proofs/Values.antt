@@ -3,7 +3,7 @@ use mathlib.Core.Path.{_≡_, refl, sym, ap₂, _∙_}
 use mathlib.Core.Logic.{_⊎_, inl, inr}
 use Prim.Native.Nat.{ℕ, _+_, _-_, _*_, _/_, _%_, _≤_, _<_}
 use native.Mathlib.Omega.{arith}
-use mathlib.Core.Bool.{Bool, true, false, not, _&&_, _||_, Bool·beq}
+use mathlib.Core.Bool.{Bool, true, false, not, _&&_, _||_, Bool·beq, and-true}
 use mathlib.Core.List.{List, [], _∷_, _++_}
 use lib.Dec.{eqb, leb}
 use lib.ListN.{length, getD}
@@ -12,8 +12,8 @@ use Rattle.format.specs.Bytes.{if_then_else_, isEmpty, all, same, le16, 
 use Rattle.format.specs.Fields.{text, isil, alternate, alternative, isOwner, marker, marked, long, basicOwner}
 use Rattle.format.specs.Elements.{required, partsOf, ordinalOf, setBytes, setInfo, shape, form, value}
 use Rattle.format.specs.Layout.{firstByte}
-use Rattle.format.proofs.Tests.{never, and-l, and-r, and-i, and-iff, and-no, and-left, not-t, or-r}
-use Rattle.format.proofs.Strings.{solid, le16-byte}
+use Rattle.format.proofs.Tests.{never, and-l, and-r, and-i, and-iff, and-no, and-left, not-t, not-f, or-r}
+use Rattle.format.proofs.Strings.{empty-of, not-empty, solid, le16-byte}
 use Rattle.format.proofs.Fields.{text-nil, text-unmarked, isil-first, alternative-facts, owner-facts, spoken}
 
 -- ---- a value is nothing, or has its number's shape and at most 255 bytes
@@ -124,25 +124,17 @@ module _ (s r : List ℕ) (ts : text s ≡ true) where
   unfolding same
   item-content c = go (long s) refl
     where
-      nil : (r : List ℕ) → not (isEmpty r) && true ≡ false → [] ≡ r
-      nil [] e = refl
-      nil (x ∷ r) e = never (cc)
-
       go : (l : Bool) → long s ≡ l → ((if marked (if l then marker else s) then (if l then s else r) else (if l then marker else s)) ≡ s)
           × ((if marked (if l then marker else s) then [] else (if l then s else r)) ≡ r)
-      go true e = (refl, nil r (rw e at c))
+      go true e = (refl, sym (empty-of r (not-f (isEmpty r) (sym (and-true (not (isEmpty r))) ∙ rw e at c))))
       go false e = (rw (text-unmarked s ts), rw (text-unmarked s ts))
 
   pub item-agrees : text r ≡ true → (text blockItem ≡ true) × (not (marked saidItem && isEmpty blockItem) ≡ true)
   unfolding same
   item-agrees tr = go (long s) refl
     where
-      full : (s : List ℕ) → long s ≡ true → isEmpty s ≡ false
-      full [] e = never (cc)
-      full (x ∷ s) e = refl
-
       go : (l : Bool) → long s ≡ l → (text (if l then s else r) ≡ true) × (not (marked (if l then marker else s) && isEmpty (if l then s else r)) ≡ true)
-      go true e = (ts, rw (full s e))
+      go true e = (ts, rw (not-empty s (λ z. omega (arith, z, leb-true 17 (length s) e))))
       go false e = (tr, rw (text-unmarked s ts))
 
 -- ---- the owner: element 3 or 23
@@ -155,10 +147,6 @@ pub value-alternative : (s : List ℕ) → value 23 s ≡ true → (s ≡ []) �
 unfolding shape
 value-alternative s v = value-shape 23 s v
 
-nothing : (r : List ℕ) → not (isEmpty r) ≡ false → r ≡ []
-nothing [] h = refl
-nothing (x ∷ r) h = never (cc)
-
 -- one of the two is empty; which one stands there is seen from the first byte
 module _ (s r : List ℕ) (is : (s ≡ []) ⊎ (isil s ≡ true)) (ir : (r ≡ []) ⊎ (alternative r ≡ true)) (clear : not (isEmpty s) && not (isEmpty r) ≡ false) where
   abbrev either : List ℕ
@@ -169,7 +157,7 @@ module _ (s r : List ℕ) (is : (s ≡ []) ⊎ (isil s ≡ true)) (ir : (r ≡ [
     | inl e ↦ elim ir [ inl k ↦ rw (e, k) (refl, refl) | inr k ↦ rw e (rw (alternative-facts r k .kind) (refl, refl)) ]
     | inr e ↦
         let f = isil-first s e in
-        let n : r ≡ [] = nothing r (rw (f .1) at clear) in
+        let n : r ≡ [] = empty-of r (not-f (isEmpty r) (rw (f .1) at clear)) in
         rw (f .1, n) (rw (f .0) (refl, refl))
   ]
 

@@ -1,10 +1,13 @@
 -- Exclusive or: it may be regrouped, and what goes in twice goes out.
 use mathlib.Core.Path.{_≡_, refl, sym, ap, ap₂, _∙_}
-use Prim.Native.Nat.{ℕ, zero, suc, _+_, _*_, _/_, _%_, _<_}
+use Prim.Native.Nat.{ℕ, zero, suc, _+_, _*_, _/_, _%_, _≤_, _<_}
 use native.Mathlib.Nat.{mod-lt, zero-lt-suc}
 use native.Mathlib.Omega.{arith}
+use native.Mathlib.Numerals.{add-one}
 use mathlib.Core.List.{List, [], _∷_, _++_}
 use lib.Arith.{bin-ind}
+use lib.ListN.{length, drop, getD, drop-of-length-le}
+use lib.Seq.{drop-cons}
 use lib.Bits.{bitXor, xor-step, xor-comm, xor-self, xor-zero-r, differ}
 use Rattle.format.specs.Bytes.{xorAll}
 
@@ -54,6 +57,15 @@ pub xor-append : (a b : List ℕ) → xorAll (a ++ b) ≡ bitXor (xorAll a) (xor
 unfolding xorAll
 xor-append [] b = refl
 xor-append (x ∷ a) b = ap (bitXor x) (xor-append a b) ∙ sym (xor-assoc x (xorAll a) (xorAll b))
+
+-- byte by byte: x is the XOR so far, r that of all
+pub xor-more : (s : List ℕ) (i x r : ℕ) → i < length s → bitXor x (xorAll (drop i s)) ≡ r → bitXor (bitXor x (getD s i 0)) (xorAll (drop (i + 1) s)) ≡ r
+unfolding xorAll
+xor-more s i x r h e = rw add-one (xor-assoc x (getD s i 0) _ ∙ sym (ap (λ (l : List ℕ). bitXor x (xorAll l)) (drop-cons s i 0 h)) ∙ e)
+
+pub xor-over : (s : List ℕ) (i x r : ℕ) → length s ≤ i → bitXor x (xorAll (drop i s)) ≡ r → x ≡ r
+unfolding xorAll
+xor-over s i x r h e = sym (xor-zero-r x) ∙ sym (ap (λ (l : List ℕ). bitXor x (xorAll l)) (drop-of-length-le s h)) ∙ e
 
 -- a string with its own XOR put in somewhere comes to 0
 pub xor-closed : (a b : List ℕ) → xorAll (a ++ (xorAll (a ++ b) ∷ b)) ≡ 0

@@ -1,7 +1,7 @@
 -- Empty is no value; else the text decides.
 use borrow.Author.Needs.{needs}
 use Rattle.format.specs.Elements.{shape}
-use Rattle.fields.proofs.Places.{is-empty, not-empty}
+use Rattle.format.proofs.Strings.{is-empty, not-empty}
 use Rattle.elements.proofs.some_text.Statement.{statement}
 use Rattle.elements.proofs.some_text.Tie as tie
 

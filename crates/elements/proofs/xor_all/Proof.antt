@@ -1,14 +1,11 @@
 -- The invariant: the XOR so far and that of the bytes from `i` on come to the XOR of all. The measure is what is left.
-use mathlib.Core.Path.{_≡_, refl, sym, ap, _∙_}
-use Prim.Native.Nat.{ℕ, suc, _-_, _≤_}
-use native.Mathlib.Numerals.{add-one}
-use mathlib.Core.List.{List}
-use lib.Bits.{bitXor, xor-zero-r}
-use lib.ListN.{length, drop, getD, drop-of-length-le}
-use lib.Seq.{drop-cons}
+use mathlib.Core.Path.{_≡_, refl}
+use Prim.Native.Nat.{_-_, _≤_}
+use lib.Bits.{bitXor}
+use lib.ListN.{length, drop}
 use borrow.Author.Needs.{needs}
 use Rattle.format.specs.Bytes.{xorAll}
-use Rattle.format.proofs.Xor.{xor-assoc}
+use Rattle.format.proofs.Xor.{xor-more, xor-over}
 use Rattle.elements.proofs.xor_all.Statement.{statement}
 use Rattle.elements.proofs.xor_all.Tie as tie
 
@@ -31,23 +28,12 @@ loop-less : tie.Need-loop-less Inv-loop μ-loop
 loop-less c = search needs
 
 loop-again : tie.Need-loop-again Inv-loop μ-loop
-unfolding xorAll
 loop-again c =
-    let s = c .before .before .before .args .s .now in
     let l = c .before .before .loop in
-    let b = getD s (l .i) 0 in (
-      search needs,
-      rw add-one
-          (xor-assoc (l .x) b (xorAll (drop (suc (l .i)) s))
-          ∙ sym (ap (λ (r : List ℕ). bitXor (l .x) (xorAll r)) (drop-cons s (l .i) 0 (c .before .loop-test .taken))) ∙ l .inv .1),
-    )
+    (search needs, xor-more (c .before .before .before .args .s .now) (l .i) (l .x) _ (c .before .loop-test .taken) (l .inv .1))
 
 returns : tie.Need-returns Inv-loop μ-loop
-unfolding xorAll
-returns c =
-    let s = c .before .before .args .s .now in
-    let l = c .before .loop in
-    sym (xor-zero-r (l .x)) ∙ sym (ap (λ (r : List ℕ). bitXor (l .x) (xorAll r)) (drop-of-length-le s (c .loop-test .left))) ∙ l .inv .1
+returns c = let l = c .before .loop in xor-over (c .before .before .args .s .now) (l .i) (l .x) _ (c .loop-test .left) (l .inv .1)
 
 pub xor-all-spec : {M : Type 1} → statement M
 xor-all-spec =

@@ -3,7 +3,7 @@ use mathlib.Core.Path.{sym}
 use borrow.Author.Needs.{needs}
 use borrow.Author.Tests.{not-true, not-false}
 use Rattle.format.specs.Fields.{alternative}
-use Rattle.fields.proofs.Places.{is-empty, not-empty}
+use Rattle.format.proofs.Strings.{is-empty, not-empty}
 use Rattle.fields.proofs.alternative.Statement.{statement}
 use Rattle.fields.proofs.alternative.Tie as tie
 

@@ -11,7 +11,7 @@ use Rattle.format.specs.Fields.{alternative, prefixIn, isilOf}
 use Rattle.fields.specs.declared.OwnerField.{OwnerField}
 use Rattle.fields.specs.declared.OwnerField.the-variants.{Alternative, Isil, Bad}
 use Rattle.fields.specs.Forms.{ownerForm}
-use Rattle.fields.proofs.Places.{is-empty, not-empty}
+use Rattle.format.proofs.Strings.{is-empty, not-empty}
 use Rattle.fields.proofs.owner_in.Statement.{statement}
 use Rattle.fields.proofs.owner_in.Tie as tie
 

@@ -2,7 +2,7 @@
 use mathlib.Core.Path.{sym}
 use borrow.Author.Needs.{needs}
 use Rattle.format.specs.Fields.{isOwner}
-use Rattle.fields.proofs.Places.{is-empty, not-empty}
+use Rattle.format.proofs.Strings.{is-empty, not-empty}
 use Rattle.fields.proofs.owner_stands.Statement.{statement}
 use Rattle.fields.proofs.owner_stands.Tie as tie
 
