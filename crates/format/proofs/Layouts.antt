@@ -157,15 +157,15 @@ module _ (n : ℕ) (c : Content) where
 module _ (n : ℕ) (c : Content) (k : Facts c) where
   owners : Placed (ownerWidth n) (ownerOf c) (library n c .owner)
   unfolding library
-  owners = owner-placed (ownerWidth n) (ownerOf c) (owner-either (el c 3) (el c 23) (value-isil (el c 3) (k .v3)) (value-alternative (el c 23) (k .v23)) (k .owners))
+  owners = owner-placed (ownerWidth n) (ownerOf c) (owner-either (el c 3) (el c 23) (value-isil (el c 3) (k .values .v3)) (value-alternative (el c 23) (k .values .v23)) (k .owners))
 
   text1 : text (el c 1) ≡ true
   unfolding shape
-  text1 = value-text 1 (el c 1) refl (k .v1)
+  text1 = value-text 1 (el c 1) refl (k .values .v1)
 
   text22 : text (el c 22) ≡ true
   unfolding shape
-  text22 = value-text 22 (el c 22) refl (k .v22)
+  text22 = value-text 22 (el c 22) refl (k .values .v22)
 
   -- a tag whose parts are these holds these elements
   pub record Parts (t : List ℕ) : Type 0 where
@@ -181,7 +181,7 @@ module _ (n : ℕ) (c : Content) (k : Facts c) where
   unfolding contentIn ownerOn library
   content-back t h =
       let ic = item-content (el c 1) (el c 22) text1 (k .items) in
-      let oc = owner-content (el c 3) (el c 23) (value-isil (el c 3) (k .v3)) (value-alternative (el c 23) (k .v23)) (k .owners) in
+      let oc = owner-content (el c 3) (el c 23) (value-isil (el c 3) (k .values .v3)) (value-alternative (el c 23) (k .values .v23)) (k .owners) in
       rw (
         h .one,
         h .item,
@@ -195,10 +195,10 @@ module _ (n : ℕ) (c : Content) (k : Facts c) where
         ic .1,
         oc .0,
         oc .1,
-        value-set (el c 4) (k .v4) .whole,
+        value-set (el c 4) (k .values .v4) .whole,
         usage-content (usageOf c),
-        ← (value-usage (el c 5) (k .v5)),
-        value-media (el c 19) (k .v19),
+        ← (value-usage (el c 5) (k .values .v5)),
+        value-media (el c 19) (k .values .v19),
       ) (k .eta)
 
   agree-back : (t : List ℕ) → Parts t → agree t ≡ true
@@ -224,7 +224,7 @@ read-back p n c good s f =
     let le : List ℕ = checkPart n c in
     let ow : List ℕ = ownPart n c in
     let ta : List ℕ = tailPart n c in
-    let oe = owner-either (el c 3) (el c 23) (value-isil (el c 3) (k .v3)) (value-alternative (el c 23) (k .v23)) (k .owners) in
+    let oe = owner-either (el c 3) (el c 23) (value-isil (el c 3) (k .values .v3)) (value-alternative (el c 23) (k .values .v23)) (k .owners) in
     let o = owners n c k in
     let ia = item-agrees (el c 1) (el c 22) (text1 n c k) (text22 n c k) in
     let ch = chain-laid (library n c) (c .carried) (n - length (laidOut n c)) (k .rest) in
@@ -244,7 +244,7 @@ read-back p n c good s f =
       one = ap libraryIn one ∙ library-back (library n c) (text-solid _ (ia .0)) (o .solid-all);
       others = ap otherBlocks bs ∙ ch .others;
     } in
-    let si = value-set (el c 4) (k .v4) in (
+    let si = value-set (el c 4) (k .values .v4) in (
       record {
         parameter = eq-eqb (getD t 0 0 % 16) 1 (ap (λ (x : ℕ). x % 16) (ps .main) ∙ omega arith);
         check = ap₂ (λ (x y : List ℕ). same x (le16 (crc y))) (ap (part 19 2) sh ∙ shape-le a pa od it le ow ta li ll) (ap covered sh ∙ shape-covered a pa od it le ow ta li ll (cut .0)) ∙ same-refl le;

@@ -11,6 +11,7 @@ use lib.Seq.{set-set, set-getD}
 use borrow.Author.Tests.{eqb-true, ltb-true}
 use Rattle.format.specs.Bytes.{if_then_else_, isEmpty, all}
 use Rattle.format.specs.Elements.{Content, numbers, placeIn, place, known, el, put, shape, form, value, clash, valuesAt, sound}
+use Rattle.format.specs.Slices.{Valued}
 use Rattle.format.specs.Fields.{long}
 use Rattle.format.specs.Chain.{carriable}
 use Rattle.format.proofs.Tests.{never, and-l, and-r, and-i, not-t, or-false, all-mono}
@@ -28,6 +29,14 @@ values-at [] ss e i h = absurd (not-suc-le-zero h)
 values-at (n ∷ ns) [] e i h = never (cc)
 values-at (n ∷ ns) (s ∷ ss) e zero h = and-l (value n s) (valuesAt ns ss) e
 values-at (n ∷ ns) (s ∷ ss) e (suc i) h = values-at ns ss (and-r (value n s) (valuesAt ns ss) e) i (le-of-suc-le-suc h)
+
+-- number by number
+pub values-valued : (ss : List (List ℕ)) → valuesAt numbers ss ≡ true
+    → Valued (getD ss 0 []) (getD ss 1 []) (getD ss 2 []) (getD ss 3 []) (getD ss 4 []) (getD ss 5 []) (getD ss 6 [])
+unfolding numbers
+values-valued ss e =
+    let v = values-at numbers ss e in
+    record { v1 = v 0 (lit< tt); v3 = v 1 (lit< tt); v4 = v 2 (lit< tt); v5 = v 3 (lit< tt); v19 = v 4 (lit< tt); v22 = v 5 (lit< tt); v23 = v 6 (lit< tt) }
 
 -- another value in the place of a number
 pub values-set : (ns : List ℕ) (ss : List (List ℕ)) (i : ℕ) (s : List ℕ) → valuesAt ns ss ≡ true → value (getD ns i 0) s ≡ true → valuesAt ns (set ss i s) ≡ true
@@ -54,13 +63,7 @@ listed c = record { slots = el c 1 ∷ el c 3 ∷ el c 4 ∷ el c 5 ∷ el c 19 
 
 pub record Facts (c : Content) : Type 0 where
   pub eta : listed c ≡ c
-  pub v1 : value 1 (el c 1) ≡ true
-  pub v3 : value 3 (el c 3) ≡ true
-  pub v4 : value 4 (el c 4) ≡ true
-  pub v5 : value 5 (el c 5) ≡ true
-  pub v19 : value 19 (el c 19) ≡ true
-  pub v22 : value 22 (el c 22) ≡ true
-  pub v23 : value 23 (el c 23) ≡ true
+  pub values : Valued (el c 1) (el c 3) (el c 4) (el c 5) (el c 19) (el c 22) (el c 23)
   pub owners : not (isEmpty (el c 3)) && not (isEmpty (el c 23)) ≡ false
   pub items : not (isEmpty (el c 22)) && long (el c 1) ≡ false
   pub rest : all carriable (c .carried) ≡ true
@@ -103,16 +106,9 @@ unfolding numbers place placeIn clash
 sound-facts c e =
     let k = sound-parts c e in
     let cl = or-false _ _ (k .clear) in
-    let v = values-at numbers (c .slots) (k .values) in
     record {
       eta = ap (λ (l : List (List ℕ)). record { slots = l; carried = c .carried }) (seven (c .slots) (values-length numbers (c .slots) (k .values)));
-      v1 = v 0 (lit< tt);
-      v3 = v 1 (lit< tt);
-      v4 = v 2 (lit< tt);
-      v5 = v 3 (lit< tt);
-      v19 = v 4 (lit< tt);
-      v22 = v 5 (lit< tt);
-      v23 = v 6 (lit< tt);
+      values = values-valued (c .slots) (k .values);
       owners = cl .0;
       items = cl .1;
       rest = all-mono (form 255) carriable form-carriable (c .carried) (k .blocks);

@@ -1,5 +1,5 @@
 -- Laws of tests: what `&&`, `||`, `not`, `if`, `all` and `same` say.
-use mathlib.Core.Path.{_≡_, refl, sym, ap₂, _∙_}
+use mathlib.Core.Path.{_≡_, refl, sym, ap₂}
 use mathlib.Core.Logic.{_↔_, _⊎_, inl, inr}
 use Prim.Native.Nat.{ℕ, zero, suc, _≤_, _<_}
 use native.Mathlib.Nat.{suc-ne-zero}
@@ -8,7 +8,7 @@ use mathlib.Core.Bool.{Bool, true, false, not, _&&_, _||_, Bool·beq}
 use mathlib.Core.List.{List, [], _∷_, _++_}
 use lib.ListN.{length, take, drop, getD}
 use lib.Dec.{eqb, leb}
-use borrow.Author.Tests.{eqb-true, eq-eqb, eqb-false, ne-eqb, leb-true, le-leb}
+use borrow.Author.Tests.{eqb-true, eq-eqb, leb-true, le-leb}
 use Rattle.format.specs.Bytes.{if_then_else_, all, same, bytes}
 
 -- what is absurd proves anything
@@ -65,6 +65,12 @@ or-r false y e = e
 pub if-inv : (t x y : Bool) → (if t then x else y) ≡ true → ((t ≡ true) × (x ≡ true)) ⊎ ((t ≡ false) × (y ≡ true))
 if-inv true x y e = inl (refl, e)
 if-inv false x y e = inr (refl, e)
+
+-- two tests that are true together are the same
+pub same-truth : (a b : Bool) → (a ≡ true → b ≡ true) → (b ≡ true → a ≡ true) → a ≡ b
+same-truth true b f g = sym (f refl)
+same-truth false true f g = g refl
+same-truth false false f g = refl
 
 pub beq-false : (x : Bool) → Bool·beq x false ≡ true → x ≡ false
 beq-false true e = sym e
@@ -124,11 +130,7 @@ same-eq (x ∷ xs) (y ∷ ys) e =
     ap₂ (λ (a : ℕ) (b : List ℕ). a ∷ b) (eqb-true x y (and-l (eqb x y) (same xs ys) e)) (same-eq xs ys (and-r (eqb x y) (same xs ys) e))
 
 pub eqb-sym : (a b : ℕ) → eqb a b ≡ eqb b a
-eqb-sym a b = go (eqb a b) refl
-  where
-    go : (t : Bool) → eqb a b ≡ t → eqb a b ≡ eqb b a
-    go true e = e ∙ sym (eq-eqb b a (sym (eqb-true a b e)))
-    go false e = e ∙ sym (ne-eqb b a (λ h. eqb-false a b e (sym h)))
+eqb-sym a b = same-truth (eqb a b) (eqb b a) (λ e. eq-eqb b a (sym (eqb-true a b e))) (λ e. eq-eqb a b (sym (eqb-true b a e)))
 
 pub same-sym : (a b : List ℕ) → same a b ≡ same b a
 unfolding same

@@ -61,9 +61,7 @@ module _ (t : List ℕ) (j : judged t ≡ got tt) where
     seen-sound = read-sound t y seen-readable
 
     pub seen-valued : Valued (el (contentIn t) 1) (el (contentIn t) 3) (el (contentIn t) 4) (el (contentIn t) 5) (el (contentIn t) 19) (el (contentIn t) 22) (el (contentIn t) 23)
-    seen-valued =
-        let f = sound-facts (contentIn t) seen-sound in
-        record { v1 = f .v1; v3 = f .v3; v4 = f .v4; v5 = f .v5; v19 = f .v19; v22 = f .v22; v23 = f .v23 }
+    seen-valued = sound-facts (contentIn t) seen-sound .values
 
     pub seen-clear : clash (contentIn t) ≡ false
     seen-clear = sound-parts (contentIn t) seen-sound .clear
