@@ -1,5 +1,5 @@
 -- A sheet and its entries: each gives the other back.
-use mathlib.Core.Path.{_≡_, refl, ap, ap₂, _∙_}
+use mathlib.Core.Path.{_≡_, refl, sym, ap, ap₂, _∙_}
 use Prim.Native.Nat.{ℕ, zero, suc, _+_, _-_, _*_, _<_}
 use native.Mathlib.Omega.{arith}
 use mathlib.Core.Bool.{Bool, true, _&&_}
@@ -8,7 +8,7 @@ use lib.ListN.{length, drop, getD, length-append}
 use borrow.Author.Tests.{leb-true}
 use lib.Seq.{take-append-seam, drop-append-seam, drop-at}
 use Rattle.format.specs.Bytes.{same, le16}
-use Rattle.format.specs.Sheet.{Entry, heads, bodies, sheetOf, offsetsFit, fitting, rising, cut, bodyAt, entriesIn, rightSheet}
+use Rattle.format.specs.Sheet.{Entry, heads, bodies, sheetOf, offsetsFit, fitting, rising, cut, bodyAt, countIn, entriesIn, rightSheet}
 use Rattle.format.proofs.Tests.{and-l, and-r, and-i, same-refl, same-eq}
 use Rattle.format.proofs.Strings.{word-le16}
 
@@ -25,6 +25,22 @@ pub length-cut : (k : ℕ) (h b : List ℕ) → length (cut k h b) ≡ k
 unfolding cut
 length-cut zero h b = refl
 length-cut (suc k) h b = ap suc (length-cut k (drop 4 h) (drop (getD h 3 0) b))
+
+pub entry-count : (s : List ℕ) → length (entriesIn s) ≡ countIn s
+unfolding entriesIn
+entry-count s = length-cut (countIn s) (drop 2 s) (drop (bodyAt (countIn s)) s)
+
+-- behind the header come the bytes of the entries
+module _ (s : List ℕ) (e : sheetOf (entriesIn s) ≡ s) where
+  pub body-is : drop (bodyAt (countIn s)) s ≡ bodies (entriesIn s)
+  unfolding sheetOf le16
+  body-is =
+      let es : List Entry = entriesIn s in
+      ap (drop (bodyAt (countIn s))) (sym e)
+      ∙ drop-at (le16 (length es) ++ heads (bodyAt (length es)) es) (bodies es) (bodyAt (countIn s)) (omega (arith, entry-count s, length-heads (bodyAt (length es)) es))
+
+  pub body-length : bodyAt (countIn s) + length (bodies (entriesIn s)) ≡ length s
+  body-length = omega (arith, length-sheet (entriesIn s), ap length e, entry-count s)
 
 -- the entries are cut as they were laid
 cut-laid : (at : ℕ) (es : List Entry) (x : List ℕ) → cut (length es) (heads at es ++ x) (bodies es) ≡ es

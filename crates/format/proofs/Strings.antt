@@ -34,6 +34,13 @@ pub nil-of : {A : Type 0} (l : List A) → length l ≡ 0 → l ≡ []
 nil-of [] e = refl
 nil-of (x ∷ l) e = absurd (omega arith)
 
+pub four-of : (s : List ℕ) → 4 ≤ length s → s ≡ getD s 0 0 ∷ getD s 1 0 ∷ getD s 2 0 ∷ getD s 3 0 ∷ drop 4 s
+four-of [] l = absurd (omega arith)
+four-of (a ∷ []) l = absurd (omega arith)
+four-of (a ∷ b ∷ []) l = absurd (omega arith)
+four-of (a ∷ b ∷ c ∷ []) l = absurd (omega arith)
+four-of (a ∷ b ∷ c ∷ d ∷ s) l = refl
+
 pub empty-of : {A : Type 0} (l : List A) → isEmpty l ≡ true → l ≡ []
 empty-of [] e = refl
 empty-of (x ∷ l) e = never (cc)

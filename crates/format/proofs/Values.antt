@@ -1,19 +1,19 @@
 -- What the value of each element is, and how the elements come back from the fields that they are placed in.
-use mathlib.Core.Path.{_≡_, refl, sym, ap₂, _∙_}
+use mathlib.Core.Path.{_≡_, refl, sym, ap, ap₂, _∙_}
 use mathlib.Core.Logic.{_⊎_, inl, inr}
 use Prim.Native.Nat.{ℕ, _+_, _-_, _*_, _/_, _%_, _≤_, _<_}
 use native.Mathlib.Omega.{arith}
 use mathlib.Core.Bool.{Bool, true, false, not, _&&_, _||_, Bool·beq, and-true}
 use mathlib.Core.List.{List, [], _∷_, _++_}
 use lib.Dec.{eqb, leb}
-use lib.ListN.{length, getD}
+use lib.ListN.{length, drop, getD, length-drop}
 use borrow.Author.Tests.{eqb-true, eq-eqb, ne-eqb, leb-true, le-leb, lt-leb, eqb-false}
 use Rattle.format.specs.Bytes.{if_then_else_, isEmpty, all, same, le16, word}
 use Rattle.format.specs.Fields.{text, isil, alternate, alternative, isOwner, marker, marked, long, basicOwner}
 use Rattle.format.specs.Elements.{required, partsOf, ordinalOf, setBytes, setInfo, shape, form, value}
 use Rattle.format.specs.Layout.{firstByte}
 use Rattle.format.proofs.Tests.{never, and-l, and-r, and-i, and-iff, and-no, and-left, not-t, not-f, or-r}
-use Rattle.format.proofs.Strings.{empty-of, not-empty, solid, le16-byte}
+use Rattle.format.proofs.Strings.{nil-of, four-of, empty-of, not-empty, solid, le16-byte}
 use Rattle.format.proofs.Fields.{text-nil, text-unmarked, isil-first, alternative-facts, owner-facts, spoken}
 
 -- ---- a value is nothing, or has its number's shape and at most 255 bytes
@@ -62,12 +62,7 @@ value-media s v = elim (value-shape 19 s v) [
 ]
 
 four : (s : List ℕ) → length s ≡ 4 → s ≡ getD s 0 0 ∷ getD s 1 0 ∷ getD s 2 0 ∷ getD s 3 0 ∷ []
-four [] e = absurd (omega arith)
-four (a ∷ []) e = absurd (omega arith)
-four (a ∷ b ∷ []) e = absurd (omega arith)
-four (a ∷ b ∷ c ∷ []) e = absurd (omega arith)
-four (a ∷ b ∷ c ∷ d ∷ []) e = refl
-four (a ∷ b ∷ c ∷ d ∷ x ∷ s) e = absurd (omega arith)
+four s e = four-of s (omega arith) ∙ ap (λ (r : List ℕ). getD s 0 0 ∷ getD s 1 0 ∷ getD s 2 0 ∷ getD s 3 0 ∷ r) (nil-of (drop 4 s) (omega (arith, length-drop 4 s)))
 
 pub record SetInfo (s : List ℕ) : Type 0 where
   pub parts : partsOf s ≤ 255

@@ -1,26 +1,21 @@
 -- What judging a sheet answers, from the tests one after the other.
 use mathlib.Core.Path.{_≡_, refl, sym, _∙_}
-use Prim.Native.Nat.{ℕ, suc}
-use native.Mathlib.Omega.{arith}
+use Prim.Native.Nat.{ℕ}
 use mathlib.Core.Bool.{true, false, not, _&&_}
-use mathlib.Core.List.{List, [], _∷_}
-use lib.Dec.{eqb}
+use mathlib.Core.List.{List}
 use lib.ListN.{length}
 use borrow.Author.Tests.{eq-eqb, ne-eqb}
 use Rattle.format.specs.Answers.{plain, got, refused}
-use Rattle.format.specs.Bytes.{if_then_else_, isEmpty, all}
+use Rattle.format.specs.Bytes.{isEmpty, all}
 use Rattle.format.specs.Elements.{numbers}
 use Rattle.format.specs.Sheet.{Entry, entriesIn, rightSheet, find, formed, goodValues}
 use Rattle.format.proofs.Answers.{next-ok, next-no, none-ok}
+use Rattle.format.proofs.Strings.{empty-length}
 use Rattle.sheet.specs.declared.Found.{Found}
 use Rattle.sheet.specs.Heads.{Sought, placed}
 use Rattle.sheet.specs.Scanning.{placeOf, placesIn, scanning}
 
 -- ---- where an element stands
-
-empty-length : (s : List ℕ) → isEmpty s ≡ eqb (length s) 0
-empty-length [] = refl
-empty-length (x ∷ s) = sym (ne-eqb (suc (length s)) 0 (omega arith))
 
 pub placed-is : (s : List ℕ) (n : ℕ) (f : Found) → Sought s n f → placed f ≡ placeOf s n
 unfolding placeOf placed

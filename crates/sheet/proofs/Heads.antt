@@ -3,7 +3,7 @@
 use mathlib.Core.Path.{_≡_, refl, sym, ap, ap₂, subst, _∙_}
 use Prim.Native.Nat.{ℕ, zero, suc, _+_, _*_, _≤_, _<_}
 use native.Mathlib.Omega.{arith}
-use mathlib.Core.Bool.{Bool, true, false, _&&_, _||_}
+use mathlib.Core.Bool.{Bool, true, false, _&&_, _||_, or-false}
 use mathlib.Core.List.{List, [], _∷_, _++_}
 use lib.Dec.{leb, ltb, eqb}
 use lib.ListN.{length, take, drop, getD, length-append, length-drop, take-append-drop}
@@ -11,17 +11,11 @@ use lib.Seq.{length-take-le}
 use borrow.Author.Tests.{leb-true, le-leb, eqb-true, eq-eqb, lt-ltb, le-ltb, ltb-true}
 use Rattle.format.specs.Bytes.{if_then_else_, all, bytes, same, le16, word}
 use Rattle.format.specs.Sheet.{Entry, heads, bodies, sheetOf, offsetsFit, fitting, risingFrom, rising, cut, bodyAt, countIn, entriesIn, rightSheet}
-use Rattle.format.proofs.Tests.{never, and-l, and-r, and-i, all-drop, bytes-at, same-refl}
-use Rattle.format.proofs.Strings.{word-le16, le16-word, nil-of}
-use Rattle.format.proofs.Sheets.{length-heads, length-sheet, fit-count, sheet-right}
+use Rattle.format.proofs.Tests.{never, same-truth, and-l, and-r, and-i, all-drop, bytes-at, same-refl}
+use Rattle.format.proofs.Strings.{word-le16, le16-word, nil-of, four-of}
+use Rattle.format.proofs.Sheets.{length-heads, length-cut, body-length, fit-count, sheet-right}
 use Rattle.sheet.specs.Heads.{least, headsRight}
 use Rattle.sheet.specs.Scanning.{bodyIn}
-
--- two tests that are true together are the same
-pub same-truth : (a b : Bool) → (a ≡ true → b ≡ true) → (b ≡ true → a ≡ true) → a ≡ b
-same-truth true b f g = sym (f refl)
-same-truth false true f g = g refl
-same-truth false false f g = refl
 
 -- the three parts of the first head's test
 pub record HeadRight (k low at : ℕ) (h : List ℕ) (stop : ℕ) : Type 0 where
@@ -63,10 +57,6 @@ follows n m h = go (eqb n 255) refl
     last : eqb m 255 ≡ leb 255 m
     last = same-truth (eqb m 255) (leb 255 m) (λ e. le-leb 255 m (omega (arith, eqb-true m 255 e))) (λ e. eq-eqb m 255 (omega (arith, leb-true 255 m e)))
 
-    or-false : (t : Bool) → t || false ≡ t
-    or-false true = refl
-    or-false false = refl
-
     go : (t : Bool) → eqb n 255 ≡ t → ltb n m || (t && eqb m 255) ≡ leb (if t then 255 else n + 1) m
     go true e = rw (le-ltb n m (omega (arith, eqb-true n 255 e))) last
     go false e =
@@ -89,11 +79,6 @@ rising-rises (e ∷ es) b =
 
 -- ---- what is cut from a sheet
 
-pub length-cut : (k : ℕ) (h b : List ℕ) → length (cut k h b) ≡ k
-unfolding cut
-length-cut zero h b = refl
-length-cut (suc k) h b = ap suc (length-cut k (drop 4 h) (drop (getD h 3 0) b))
-
 cut-numbers : (k : ℕ) (h b : List ℕ) → bytes h ≡ true → byteNumbers (cut k h b) ≡ true
 unfolding cut all
 cut-numbers zero h b y = refl
@@ -105,13 +90,6 @@ cut-rises zero low at h b stop e = refl
 cut-rises (suc k) low at h b stop e =
     let r = head-right k low at h stop e in
     and-i (le-leb low (getD h 0 0) (r .order)) (cut-rises k (least (getD h 0 0)) (at + getD h 3 0) (drop 4 h) (drop (getD h 3 0) b) stop (r .rest))
-
-four-of : (h : List ℕ) → 4 ≤ length h → h ≡ getD h 0 0 ∷ getD h 1 0 ∷ getD h 2 0 ∷ getD h 3 0 ∷ drop 4 h
-four-of [] l = absurd (omega arith)
-four-of (a ∷ []) l = absurd (omega arith)
-four-of (a ∷ b ∷ []) l = absurd (omega arith)
-four-of (a ∷ b ∷ c ∷ []) l = absurd (omega arith)
-four-of (a ∷ b ∷ c ∷ d ∷ h) l = refl
 
 word-small : (lo hi w : ℕ) → lo ≤ 255 → hi ≤ 255 → word lo hi ≡ w → w ≤ 65535
 unfolding word
@@ -198,11 +176,7 @@ sheet-laid es f r =
 
 -- the entries of a right sheet begin where the header ends
 pub right-body : (s : List ℕ) → rightSheet s ≡ true → bodyIn s + length (bodies (entriesIn s)) ≡ length s
-unfolding entriesIn
-right-body s e =
-    let r = sheet-right s e in
-    let n : length (entriesIn s) ≡ countIn s = length-cut (countIn s) (drop 2 s) (drop (bodyIn s) s) in
-    omega (arith, length-sheet (entriesIn s), ap length (r .sheet))
+right-body s e = body-length s (sheet-right s e .sheet)
 
 sheet-header : (s : List ℕ) → bytes s ≡ true → rightSheet s ≡ true → headerRight s ≡ true
 unfolding entriesIn

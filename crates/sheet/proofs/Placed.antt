@@ -4,27 +4,26 @@ use Prim.Native.Nat.{ℕ, _+_, _≤_, _<_}
 use native.Mathlib.Omega.{arith}
 use mathlib.Core.Bool.{Bool, true, false}
 use mathlib.Core.List.{List, [], _∷_, _++_}
-use lib.Dec.{eqb, ltb, leb, lit<}
-use lib.ListN.{length, take, drop, getD, length-append, length-drop}
-use lib.Seq.{length-take-le, drop-drop, drop-at, take-append-seam, drop-append-seam}
+use lib.Dec.{eqb, ltb, leb}
+use lib.ListN.{length, take, drop, length-append}
+use lib.Seq.{drop-drop, take-append-seam, drop-append-seam}
 use borrow.Author.Tests.{eqb-false, eq-eqb, ltb-true, ltb-false, leb-true, le-leb, ne-eqb}
-use Rattle.format.specs.Answers.{Refusal, got, refused, Step, need, inOrder}
-use Rattle.format.specs.Bytes.{if_then_else_, isEmpty, all, part, joined, le16}
-use Rattle.format.specs.Elements.{numbers, form, value, placeIn, place, el}
-use Rattle.format.specs.Sheet.{Entry, heads, bodies, bodyAt, sheetOf, countIn, entriesIn, rightSheet, find, carriedIn, contentOf, formed, goodValues}
+use Rattle.format.specs.Answers.{got}
+use Rattle.format.specs.Bytes.{if_then_else_, isEmpty, all, part, joined}
+use Rattle.format.specs.Elements.{numbers, form, placeIn, place, el}
+use Rattle.format.specs.Sheet.{Entry, bodies, entriesIn, rightSheet, find, carriedIn, contentOf, formed, goodValues}
 use Rattle.format.specs.Slices.{elements, Valued, Held}
 use Rattle.format.specs.Calls.{sheetContent}
-use Rattle.format.specs.declared.Part.{Part}
 use Rattle.format.proofs.Tests.{and-l, and-r, and-i, all-mono}
-use Rattle.format.proofs.Answers.{next-inv, none-inv, refused-on, passed-on}
-use Rattle.format.proofs.Sheets.{length-heads, sheet-right}
-use Rattle.format.proofs.Slots.{values-at}
+use Rattle.format.proofs.Answers.{next-inv, none-inv}
+use Rattle.format.proofs.Sheets.{body-is, sheet-right}
+use Rattle.format.proofs.Slots.{values-valued}
 use Rattle.format.proofs.Entries.{values-parts, find-values, carried-forms}
 use Rattle.elements.proofs.Numbers.{form-byte}
 use Rattle.sheet.specs.declared.Places.{Places}
 use Rattle.sheet.specs.Heads.{least}
 use Rattle.sheet.specs.Scanning.{bodyIn, startOf, placeOf, placesIn, scanning}
-use Rattle.sheet.proofs.Heads.{rises, byteNumbers, rising-rises, length-cut, right-body}
+use Rattle.sheet.proofs.Heads.{rises, byteNumbers, rising-rises, right-body}
 use Rattle.sheet.proofs.Walking.{find-above, least-above}
 
 -- ---- entries in a row: the bytes of each stand where the lengths before it tell
@@ -101,19 +100,6 @@ module _ (s : List ℕ) where
 numbers-fit : (es : List Entry) → all formed es ≡ true → byteNumbers es ≡ true
 numbers-fit es f = all-mono formed (λ (e : Entry). leb (e .number) 255) (λ e h. le-leb (e .number) 255 (form-byte (e .number) (e .bytes) h)) es f
 
--- behind the header come the bytes of the entries
-body-is : (s : List ℕ) → rightSheet s ≡ true → drop (bodyIn s) s ≡ bodies (entriesIn s)
-unfolding entriesIn sheetOf le16
-body-is s e =
-    let es : List Entry = entriesIn s in
-    let n : length es ≡ countIn s = length-cut (countIn s) (drop 2 s) (drop (bodyIn s) s) in
-    let front : List ℕ = le16 (length es) ++ heads (bodyAt (length es)) es in
-    ap (drop (bodyIn s)) (sym (sheet-right s e .sheet)) ∙ drop-at front (bodies es) (bodyIn s) (omega (arith, n, length-heads (bodyAt (length es)) es))
-
--- a part that is held is as long as it says
-pub held-length : (t : List ℕ) (p : Part) (s : List ℕ) → Held t p s → length s ≡ p .len
-held-length t p s h = sym (ap length (h .is)) ∙ length-take-le (p .len) (drop (p .at) t) (omega (arith, h .inside, length-drop (p .at) t))
-
 -- element n of the sheet s
 abbrev pub elOf : List ℕ → ℕ → List ℕ
 elOf s n = el (sheetContent s) n
@@ -148,7 +134,7 @@ module _ (s : List ℕ) (right : rightSheet s ≡ true) (good : goodValues (entr
   found n = go (find n (entriesIn s)) (k .is) (omega (arith, k .inside, right-body s right))
     where
       k : Stands s n (bodyIn s) (entriesIn s)
-      k = stands s n 0 (bodyIn s) (entriesIn s) (body-is s right) order
+      k = stands s n 0 (bodyIn s) (entriesIn s) (body-is s (sheet-right s right .sheet)) order
 
       start : ℕ
       start = startOf n (bodyIn s) (entriesIn s)
@@ -158,28 +144,16 @@ module _ (s : List ℕ) (right : rightSheet s ≡ true) (good : goodValues (entr
       go [] e h = record { inside = omega arith; is = refl }
       go (x ∷ b) e h = record { inside = h; is = e }
 
-  -- at each place of the table stands a value of its number
-  valued : (i : ℕ) → i < length numbers → value (getD numbers i 0) (getD (sheetContent s .slots) i []) ≡ true
-  unfolding contentOf
-  valued i h = let v = values-parts (entriesIn s) good in values-at numbers _ (find-values numbers (entriesIn s) (v .0) (v .1)) i h
-
   pub good-sheet : GoodSheet s (placesIn s)
   unfolding placesIn numbers place placeIn contentOf
   good-sheet =
+      let parts = values-parts (entriesIn s) good in
       record {
         right = right;
         good = good;
         content = refl;
-        values = record {
-          v1 = valued 0 (lit< tt);
-          v3 = valued 1 (lit< tt);
-          v4 = valued 2 (lit< tt);
-          v5 = valued 3 (lit< tt);
-          v19 = valued 4 (lit< tt);
-          v22 = valued 5 (lit< tt);
-          v23 = valued 6 (lit< tt);
-        };
-        blocks = carried-forms (entriesIn s) (values-parts (entriesIn s) good .0);
+        values = values-valued _ (find-values numbers (entriesIn s) (parts .0) (parts .1));
+        blocks = carried-forms (entriesIn s) (parts .0);
         item = found 1;
         isil = found 3;
         set = found 4;
@@ -187,8 +161,8 @@ module _ (s : List ℕ) (right : rightSheet s ≡ true) (good : goodValues (entr
         media = found 19;
         second = found 22;
         other = found 23;
-        carried-is = carried-stand s 0 (bodyIn s) (entriesIn s) (body-is s right) order fits;
-        carried-inside = omega (arith, stands s 255 0 (bodyIn s) (entriesIn s) (body-is s right) order .inside, right-body s right);
+        carried-is = carried-stand s 0 (bodyIn s) (entriesIn s) (body-is s (sheet-right s right .sheet)) order fits;
+        carried-inside = omega (arith, stands s 255 0 (bodyIn s) (entriesIn s) (body-is s (sheet-right s right .sheet)) order .inside, right-body s right);
       }
 
 -- ---- what a caller of the scan cites
@@ -199,15 +173,3 @@ scan-good s p e =
     let a = next-inv 8 (rightSheet s) _ (placesIn s) p e in
     let b = next-inv 9 (goodValues (entriesIn s)) _ (placesIn s) p (a .1) in
     rw (none-inv (placesIn s) p (b .1)) at (good-sheet s (a .0) (b .0))
-
--- where the sheet is good, the steps behind 8 and 9 decide
-pub scan-passes : {A : Type 0} (s : List ℕ) (p : Places) (more : List Step) (a : A) → scanning s ≡ got p
-    → inOrder (need 8 (rightSheet s) ∷ need 9 (goodValues (entriesIn s)) ∷ more) a ≡ inOrder more a
-unfolding scanning
-scan-passes s p more a e = passed-on (need 8 (rightSheet s) ∷ need 9 (goodValues (entriesIn s)) ∷ []) more (placesIn s) p a e
-
--- and a refusal of the sheet is the call's
-pub scan-refuses : {A : Type 0} (s : List ℕ) (x : Refusal) (more : List Step) (a : A) → scanning s ≡ refused x
-    → inOrder (need 8 (rightSheet s) ∷ need 9 (goodValues (entriesIn s)) ∷ more) a ≡ refused x
-unfolding scanning
-scan-refuses s x more a e = refused-on (need 8 (rightSheet s) ∷ need 9 (goodValues (entriesIn s)) ∷ []) more (placesIn s) a x e
