@@ -1,6 +1,6 @@
 -- The entries of a sheet, as the loop that prints a line for each walks over them.
 use mathlib.Core.Path.{_≡_, refl, sym, ap, ap₂, _∙_}
-use Prim.Native.Nat.{ℕ, zero, suc, _+_, _-_, _*_, _≤_, _<_}
+use Prim.Native.Nat.{ℕ, suc, _+_, _-_, _*_, _≤_, _<_}
 use native.Mathlib.Nat.{add-zero}
 use native.Mathlib.Omega.{arith}
 use mathlib.Core.List.{List, [], _∷_, _++_, append-assoc, append-nil}
@@ -8,9 +8,9 @@ use lib.ListN.{length, take, drop, getD, length-append, length-drop}
 use lib.Seq.{take-append-seam, drop-append-seam, drop-at, drop-drop, getD-drop}
 use Rattle.format.specs.Bytes.{le16}
 use Rattle.format.specs.Pieces.{stored}
-use Rattle.format.specs.Sheet.{Entry, heads, bodies, sheetOf, cut, bodyAt, countIn, entriesIn}
+use Rattle.format.specs.Sheet.{Entry, heads, bodies, sheetOf, bodyAt, countIn, entriesIn}
 use Rattle.format.proofs.Pieces.{stored-none, stored-then, stored-as}
-use Rattle.format.proofs.Sheets.{length-heads, length-sheet}
+use Rattle.format.proofs.Sheets.{length-heads, entry-count, body-length}
 use Rattle.listing.specs.Listing.{lineOf, linesOf}
 use Rattle.listing.proofs.Text.{line-length}
 
@@ -23,19 +23,6 @@ pub record Left (s : List ℕ) (head body : ℕ) (left : List Entry) : Type 0 wh
   pub named : drop head s ≡ heads offset left ++ behind
   pub laid : drop body s ≡ bodies left
   pub within : body ≤ length s
-
-length-cut : (k : ℕ) (h b : List ℕ) → length (cut k h b) ≡ k
-unfolding cut
-length-cut zero h b = refl
-length-cut (suc k) h b = ap suc (length-cut k (drop 4 h) (drop (getD h 3 0) b))
-
-pub entry-count : (s : List ℕ) → length (entriesIn s) ≡ countIn s
-unfolding entriesIn
-entry-count s = length-cut (countIn s) (drop 2 s) (drop (bodyAt (countIn s)) s)
-
--- the sheet of the entries that it names has room for their heads
-pub heads-within : (s : List ℕ) → sheetOf (entriesIn s) ≡ s → bodyAt (countIn s) ≤ length s
-heads-within s e = omega (arith, length-sheet (entriesIn s), ap length e, entry-count s)
 
 -- at first that is all of them
 all-left : (es : List Entry) → Left (sheetOf es) 2 (bodyAt (length es)) es
@@ -116,7 +103,7 @@ printing-starts o at s n e c h =
       start = omega arith;
       kept = refl;
       laid = stored-none o at;
-      room = omega (arith, length-sheet es, ap length e);
+      room = omega (arith, body-length s e);
     }
 
 -- what a turn reads and stores has its place

@@ -9,18 +9,18 @@ use Rattle.format.specs.Sheet.{countIn, entriesIn}
 use Rattle.format.proofs.Pieces.{stored-then, stored-as}
 use Rattle.listing.specs.Listing.{counted, elementsWord, linesOf, elementsText}
 use Rattle.listing.proofs.Text.{counted-length}
-use Rattle.listing.proofs.Lines.{entry-count, heads-within}
+use Rattle.format.proofs.Sheets.{entry-count, body-length}
 use Rattle.listing.proofs.put_elements.Statement.{statement}
 use Rattle.listing.proofs.put_elements.Tie as tie
 
 shared-slice-read-count : tie.Need-shared-slice-read-count
-shared-slice-read-count c = omega (arith, heads-within (c .before .before .before .args .sheet .now) (c .before .before .before .pre .0))
+shared-slice-read-count c = omega (arith, body-length (c .before .before .before .args .sheet .now) (c .before .before .before .pre .0))
 
 cast-count : tie.Need-cast-count
 cast-count c = omega (arith, c .shared-slice-known2 .given 0)
 
 shared-slice-read-count-2 : tie.Need-shared-slice-read-count-2
-shared-slice-read-count-2 c = omega (arith, heads-within (c .before .before .before .before .args .sheet .now) (c .before .before .before .before .pre .0))
+shared-slice-read-count-2 c = omega (arith, body-length (c .before .before .before .before .args .sheet .now) (c .before .before .before .before .pre .0))
 
 cast-count-2 : tie.Need-cast-count-2
 cast-count-2 c = omega (arith, c .shared-slice-known3 .given 1)
@@ -38,14 +38,14 @@ put-counted-requires : tie.Need-put-counted-requires
 unfolding word
 put-counted-requires c κs =
     let s = c .before .before .before .before .before .before in
-    (omega arith, omega (arith, heads-within (s .args .sheet .now) (s .pre .0)))
+    (omega arith, omega (arith, body-length (s .args .sheet .now) (s .pre .0)))
 
 put-lines-requires : tie.Need-put-lines-requires
 unfolding word
 put-lines-requires c κs =
     let s = c .before .before .before .before .before .before .before .before .before .before in
     let n : ℕ = countIn (s .args .sheet .now) in
-    let few : n < 10000 = omega (arith, heads-within (s .args .sheet .now) (s .pre .0)) in
+    let few : n < 10000 = omega (arith, body-length (s .args .sheet .now) (s .pre .0)) in
     (s .pre .0, refl, omega (arith, c .before .before .before .put-counted .ensures .0, c .before .before .before .put-counted .kept .0, counted-length elementsWord n few))
 
 same-length : tie.Need-same-length

@@ -2,7 +2,8 @@
 use Prim.Native.Nat.{_+_, _-_}
 use native.Mathlib.Omega.{arith}
 use borrow.Author.Needs.{needs}
-use Rattle.listing.proofs.Lines.{heads-within, Printing, Within, printing-starts, can-read, printing-on, printing-ends}
+use Rattle.format.proofs.Sheets.{body-length}
+use Rattle.listing.proofs.Lines.{Printing, Within, printing-starts, can-read, printing-on, printing-ends}
 use Rattle.listing.proofs.put_lines.Statement.{statement}
 use Rattle.listing.proofs.put_lines.Tie as tie
 
@@ -18,10 +19,10 @@ can : (c : tie.In-loop Inv-loop μ-loop)
 can c = can-read (c .before .loop .inv) (c .loop-test .taken)
 
 mul-bodies : tie.Need-mul-bodies Inv-loop μ-loop
-mul-bodies c = omega (arith, heads-within (c .before .before .args .sheet .now) (c .before .before .pre .0))
+mul-bodies c = omega (arith, body-length (c .before .before .args .sheet .now) (c .before .before .pre .0))
 
 add-bodies : tie.Need-add-bodies Inv-loop μ-loop
-add-bodies c = omega (arith, heads-within (c .before .before .args .sheet .now) (c .before .before .pre .0))
+add-bodies c = omega (arith, body-length (c .before .before .args .sheet .now) (c .before .before .pre .0))
 
 loop-holds : tie.Need-loop-holds Inv-loop μ-loop
 loop-holds c =
