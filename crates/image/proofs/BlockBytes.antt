@@ -9,29 +9,10 @@ use lib.ListN.{length, length-append}
 use Rattle.format.specs.Bytes.{if_then_else_, isEmpty, trim, strip}
 use Rattle.format.specs.Chain.{Library, libraryBytes, sealed, blockOne}
 use Rattle.format.proofs.Tests.{never}
-use Rattle.format.proofs.Strings.{nil-of, solid-strip, strip-append}
+use Rattle.format.proofs.Strings.{nil-of, trim-some, trim-other, solid-strip, strip-append, strip-behind}
 use Rattle.format.proofs.Fields.{text-solid, owner-facts}
 use Rattle.format.proofs.Blocks.{sealed-length}
 use Rattle.image.specs.Laying.{fieldsOf, OwnerOrNone, Behind}
-
--- ---- stripping
-
-trim-some : (x : ℕ) (r : List ℕ) → (length r ≡ 0 → ⊥) → trim x r ≡ x ∷ r
-unfolding trim
-trim-some zero [] n = absurd (n refl)
-trim-some zero (y ∷ r) n = refl
-trim-some (suc x) r n = refl
-
-trim-other : (x : ℕ) (r : List ℕ) → (x ≡ 0 → ⊥) → trim x r ≡ x ∷ r
-unfolding trim
-trim-other zero r n = absurd (n refl)
-trim-other (suc x) r n = refl
-
--- what ends in no 00 keeps all that stands before it
-strip-behind : (s r : List ℕ) → (length r ≡ 0 → ⊥) → strip r ≡ r → strip (s ++ r) ≡ s ++ r
-unfolding strip
-strip-behind [] r n e = e
-strip-behind (x ∷ s) r n e = ap (trim x) (strip-behind s r n e) ∙ trim-some x (s ++ r) (λ h. n (omega (arith, length-append s r)))
 
 -- ---- the bytes
 

@@ -25,21 +25,21 @@ returns c =
     let a = c .before .before .args in
     told (a .item .now) (a .isil .now) (a .second .now) (a .other .now) true _ (rw (ne-eqb _ 0 (c .before .if1 .taken), ne-eqb _ 0 (c .if2 .taken))) refl
 
+-- no ISIL beside an alternative owner
+apart : (c : tie.Joined1) → not (eqb (length (c .before .args .isil .now)) 0) && not (eqb (length (c .before .args .other .now)) 0) ≡ false
+apart c =
+    let n = length (c .before .args .isil .now) in
+    ⊎-elim (λ w. and-no (not (eqb n 0)) _ (ap not (eq-eqb _ 0 (w .1 .left)))) (λ w. rw (eq-eqb n 0 (w .left))) (c .if1 .came)
+
 returns-2 : tie.Need-returns-2
 returns-2 c =
-    let c1 = c .before in
-    let c2 = c1 .before in
-    let a = c2 .args in
-    told (a .item .now) (a .isil .now) (a .second .now) (a .other .now) false _
-    (⊎-elim (λ w. and-no (not (eqb (length (a .isil .now)) 0)) _ (ap not (eq-eqb _ 0 (w .1 .left)))) (λ w. rw (eq-eqb (length (a .isil .now)) 0 (w .left))) (c1 .if1 .came)) (rw (ne-eqb _ 0 (c .if3 .taken)))
+    let a = c .before .before .args in
+    told (a .item .now) (a .isil .now) (a .second .now) (a .other .now) false _ (apart (c .before)) (rw (ne-eqb _ 0 (c .if3 .taken)))
 
 returns-3 : tie.Need-returns-3
 returns-3 c =
-    let c1 = c .before in
-    let c2 = c1 .before in
-    let a = c2 .args in
-    told (a .item .now) (a .isil .now) (a .second .now) (a .other .now) false _
-    (⊎-elim (λ w. and-no (not (eqb (length (a .isil .now)) 0)) _ (ap not (eq-eqb _ 0 (w .1 .left)))) (λ w. rw (eq-eqb (length (a .isil .now)) 0 (w .left))) (c1 .if1 .came)) (rw (eq-eqb _ 0 (c .if3 .left)))
+    let a = c .before .before .args in
+    told (a .item .now) (a .isil .now) (a .second .now) (a .other .now) false _ (apart (c .before)) (rw (eq-eqb _ 0 (c .if3 .left)))
 
 pub clashing-spec : {M : Type 1} → statement M
 clashing-spec = tie.close (tie.spec returns returns-2 returns-3)

@@ -10,7 +10,7 @@ use Rattle.format.specs.Bytes.{if_then_else_, isEmpty, padWith}
 use Rattle.format.specs.Fields.{marker, packed, basicOwner, ownerField}
 use Rattle.format.specs.Layout.{ownerWidth}
 use Rattle.format.proofs.Tests.{not-t, not-f}
-use Rattle.format.proofs.Strings.{nil-of}
+use Rattle.format.proofs.Strings.{nil-of, not-empty}
 use Rattle.image.specs.Laying.{Blank, laidAt}
 use Rattle.image.proofs.Drafts.{blank-byte, blank-later, laid-nothing, laid-padded, laid-next}
 use Rattle.image.proofs.OwnerForms.{Alternate, low-alternate, high-isil, alternate-packed, held-short, held-prefix, basic-told}
@@ -37,11 +37,7 @@ module _ (d o : List ℕ) (room : 32 ≤ length d) (blank : Blank 21 d) where
 
   module _ (some : length o ≡ 0 → ⊥) where
     there : isEmpty o ≡ false
-    there = go o some
-      where
-        go : (s : List ℕ) → (length s ≡ 0 → ⊥) → isEmpty s ≡ false
-        go [] n = absurd (n refl)
-        go (x ∷ s) n = refl
+    there = not-empty o some
 
     marked : basicOwner w o ≡ false → set d 23 1 ≡ laidAt 21 (ownerField w o) d
     marked e = filled (0 ∷ 0 ∷ marker) _ (rw (there, e)) (omega arith) (behind marker _ (omega arith) (blank-byte 23 1 d (omega arith) (blank-later 21 23 d (omega arith) (omega arith) blank)))
@@ -85,6 +81,14 @@ returns-2 c =
     marked (a .draft .now) (a .owner .now) (c6 .pre .1) (c6 .pre .0) (c3 .if1 .left)
     (told (length (a .draft .now)) _ (a .owner .now) _ false (c3 .if1 .left) (c2 .owner-width .ensures) (c1 .is-basic .ensures) (not-t _ (c .if2 .taken)))
 
+-- where the test passed, a basic form holds the owner
+held : (c : tie.Else2) → let a = c .before .before .before .before .before .before .args in basicOwner (ownerWidth (length (a .draft .now))) (a .owner .now) ≡ true
+held c =
+    let c2 = c .before .before in
+    let c3 = c2 .before in
+    let a = c3 .before .before .before .args in
+    told (length (a .draft .now)) _ (a .owner .now) _ true (c3 .if1 .left) (c2 .owner-width .ensures) (c .before .is-basic .ensures) (not-f _ (c .if2 .left))
+
 shared-slice-read-if3 : tie.Need-shared-slice-read-if3
 shared-slice-read-if3 c = search needs
 
@@ -92,14 +96,10 @@ put-bytes-requires : tie.Need-put-bytes-requires
 put-bytes-requires c κs =
     let c1 = c .before in
     let c3 = c1 .before .before in
-    let c4 = c3 .before in
-    let c5 = c4 .before in
-    let c6 = c5 .before in
-    let c9 = c6 .before .before .before in
-    let a = c9 .args in
-    let o = a .owner .now in
-    other-fits (a .draft .now) o (c9 .pre .1) (c9 .pre .0) (c6 .if1 .left) (low-alternate o (c9 .pre .2) (c6 .if1 .left) (c1 .if3 .taken))
-    (told (length (a .draft .now)) _ o _ true (c6 .if1 .left) (c5 .owner-width .ensures) (c4 .is-basic .ensures) (not-f _ (c3 .if2 .left)))
+    let c6 = c3 .before .before .before in
+    let s = c6 .before .before .before in
+    let o = s .args .owner .now in
+    other-fits (s .args .draft .now) o (s .pre .1) (s .pre .0) (c6 .if1 .left) (low-alternate o (s .pre .2) (c6 .if1 .left) (c1 .if3 .taken)) (held c3)
 
 same-length-2 : tie.Need-same-length-2
 same-length-2 c = search needs
@@ -109,29 +109,21 @@ returns-3 c =
     let c2 = c .before .before in
     let c4 = c2 .before .before in
     let c6 = c4 .before .before in
-    let c7 = c6 .before in
-    let c8 = c7 .before in
-    let c9 = c8 .before in
-    let c12 = c9 .before .before .before in
-    let a = c12 .args in
-    let o = a .owner .now in
-    other (a .draft .now) o (c12 .pre .1) (c12 .pre .0) (c9 .if1 .left) (low-alternate o (c12 .pre .2) (c9 .if1 .left) (c4 .if3 .taken))
-    (told (length (a .draft .now)) _ o _ true (c9 .if1 .left) (c8 .owner-width .ensures) (c7 .is-basic .ensures) (not-f _ (c6 .if2 .left))) _ (c2 .put-bytes .ensures .1)
+    let c9 = c6 .before .before .before in
+    let s = c9 .before .before .before in
+    let o = s .args .owner .now in
+    other (s .args .draft .now) o (s .pre .1) (s .pre .0) (c9 .if1 .left) (low-alternate o (s .pre .2) (c9 .if1 .left) (c4 .if3 .taken)) (held c6) _ (c2 .put-bytes .ensures .1)
 
 put-isil-requires : tie.Need-put-isil-requires
 put-isil-requires c κs =
     let c1 = c .before in
     let c3 = c1 .before .before in
-    let c4 = c3 .before in
-    let c5 = c4 .before in
-    let c6 = c5 .before in
-    let c9 = c6 .before .before .before in
-    let a = c9 .args in
-    let o = a .owner .now in
-    let w = ownerWidth (length (a .draft .now)) in
-    let i = high-isil o (c9 .pre .2) (c6 .if1 .left) (c1 .if3 .left) in
-    let b = told (length (a .draft .now)) _ o _ true (c6 .if1 .left) (c5 .owner-width .ensures) (c4 .is-basic .ensures) (not-f _ (c3 .if2 .left)) in
-    record { size = c9 .pre .1; blank = c9 .pre .0; good = i; room = omega (arith, held-short w o b); short = held-prefix w o i b }
+    let c6 = c3 .before .before .before in
+    let s = c6 .before .before .before in
+    let o = s .args .owner .now in
+    let w = ownerWidth (length (s .args .draft .now)) in
+    let i = high-isil o (s .pre .2) (c6 .if1 .left) (c1 .if3 .left) in
+    record { size = s .pre .1; blank = s .pre .0; good = i; room = omega (arith, held-short w o (held c3)); short = held-prefix w o i (held c3) }
 
 same-length-3 : tie.Need-same-length-3
 same-length-3 c = search needs
@@ -140,14 +132,9 @@ returns-4 : tie.Need-returns-4
 returns-4 c =
     let c2 = c .before .before in
     let c6 = c2 .before .before .before .before in
-    let c7 = c6 .before in
-    let c8 = c7 .before in
-    let c9 = c8 .before in
-    let c12 = c9 .before .before .before in
-    let a = c12 .args in
-    let o = a .owner .now in
-    packs (a .draft .now) o (c12 .pre .1) (c12 .pre .0) (c9 .if1 .left)
-    (told (length (a .draft .now)) _ o _ true (c9 .if1 .left) (c8 .owner-width .ensures) (c7 .is-basic .ensures) (not-f _ (c6 .if2 .left))) _ (c2 .put-isil .ensures)
+    let c9 = c6 .before .before .before in
+    let s = c9 .before .before .before in
+    packs (s .args .draft .now) (s .args .owner .now) (s .pre .1) (s .pre .0) (c9 .if1 .left) (held c6) _ (c2 .put-isil .ensures)
 
 pub put-owner-spec : {M : Type 1} → statement M
 put-owner-spec =
