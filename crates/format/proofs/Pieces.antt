@@ -1,12 +1,12 @@
 -- A buffer in which pieces are stored one behind the other.
 use mathlib.Core.Path.{_≡_, refl, sym, ap, ap₂, _∙_}
-use mathlib.Core.List.{List, [], _∷_, _++_, append-assoc, append-nil}
+use mathlib.Core.List.{List, [], _∷_, _++_, append-assoc}
 use Prim.Native.Nat.{ℕ, _+_, _-_, _≤_, _<_}
 use native.Mathlib.Nat.{add-zero, zero-add}
 use native.Mathlib.Omega.{arith}
 use native.Mathlib.Numerals.{add-one}
-use lib.ListN.{length, take, drop, set, length-append, length-take, length-drop, take-append-drop, drop-of-length-le}
-use lib.Seq.{set-split, take-at, drop-at, drop-drop, take-length, take-append-seam, length-take-le}
+use lib.ListN.{length, take, drop, set, length-append, length-take, length-drop, take-append-drop}
+use lib.Seq.{set-split, take-at, drop-at, drop-append-le, drop-drop, take-length, take-append-seam, length-take-le}
 use Rattle.format.specs.Bytes.{filled}
 use Rattle.format.specs.Pieces.{stored}
 
@@ -14,14 +14,29 @@ use Rattle.format.specs.Pieces.{stored}
 pub stored-none : (o : List ℕ) (at : ℕ) → stored o at [] at o
 stored-none o at = (sym (add-zero at), sym (ap (λ (n : ℕ). take at o ++ drop n o) (add-zero at) ∙ take-append-drop at o))
 
--- a copy to the part that begins at byte `at`
+-- a copy into the part of k bytes that begins at byte `at`
+pub stored-into : (o p last : List ℕ) (at k : ℕ) → length p ≤ length (take k (drop at o))
+    → last ≡ take (length p) p ++ drop (length p) (take k (drop at o))
+    → stored o at p (at + length p) (take at o ++ (last ++ drop k (drop at o)))
+stored-into o p last at k h e =
+    let r : List ℕ = drop at o in
+    let behind : drop (length p) (take k r) ++ drop k r ≡ drop (at + length p) o =
+    sym (drop-append-le (length p) (take k r) (drop k r) h) ∙ ap (drop (length p)) (take-append-drop k r) ∙ drop-drop (length p) at o in
+    let l : last ≡ p ++ drop (length p) (take k r) = e ∙ ap (λ (x : List ℕ). x ++ drop (length p) (take k r)) (take-length p) in
+    (refl, ap (λ (x : List ℕ). take at o ++ x) (ap (λ (x : List ℕ). x ++ drop k r) l ∙ append-assoc p _ (drop k r) ∙ ap (λ (x : List ℕ). p ++ x) behind))
+
+-- into a part that it fills
 pub stored-copy : (o p last : List ℕ) (at k : ℕ) → k ≡ length p → at + length p ≤ length o
     → last ≡ take (length p) p ++ drop (length p) (take k (drop at o))
     → stored o at p (at + length p) (take at o ++ (last ++ drop k (drop at o)))
-stored-copy o p last at k hk h e =
-    let short : length (take k (drop at o)) ≤ length p = simp length-take (omega arith) in
-    let l : last ≡ p = e ∙ ap₂ (λ (x y : List ℕ). x ++ y) (take-length p) (drop-of-length-le (take k (drop at o)) short) ∙ append-nil p in
-    (refl, ap₂ (λ (x y : List ℕ). take at o ++ (x ++ y)) l (ap (λ (n : ℕ). drop n (drop at o)) hk ∙ drop-drop (length p) at o))
+stored-copy o p last at k hk h e = stored-into o p last at k (omega (arith, length-take k (drop at o), length-drop at o)) e
+
+-- into the whole buffer
+pub copy-fills : (o p d : List ℕ) → d ≡ take (length p) p ++ drop (length p) o → d ≡ filled p o
+copy-fills o p d e = e ∙ ap (λ (x : List ℕ). x ++ drop (length p) o) (take-length p)
+
+pub stored-whole : (o p d : List ℕ) (r : ℕ) → r ≡ length p → d ≡ take (length p) p ++ drop (length p) o → stored o 0 p r d
+stored-whole o p d r long e = rw zero-add (long, copy-fills o p d e)
 
 -- the buffer keeps its length
 pub stored-length : (o p d : List ℕ) (at r : ℕ) → at + length p ≤ length o → stored o at p r d → length d ≡ length o

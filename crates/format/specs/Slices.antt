@@ -5,13 +5,23 @@ use mathlib.Core.Bool.{true}
 use mathlib.Core.List.{List, [], _∷_}
 use lib.ListN.{length}
 use Rattle.format.specs.Bytes.{part}
-use Rattle.format.specs.Elements.{Content, value}
+use Rattle.format.specs.Elements.{Content, el, value}
 use Rattle.format.specs.declared.Part.{Part}
 
 -- item, ISIL, set information, usage, media, alternative item, alternative owner; and the blocks
 abbrev pub elements : List ℕ → List ℕ → List ℕ → List ℕ → List ℕ → List ℕ → List ℕ → List (List ℕ) → Content
 elements item isil set usage media second other blocks =
     record { slots = item ∷ isil ∷ set ∷ usage ∷ media ∷ second ∷ other ∷ []; carried = blocks }
+
+-- seven slices hold the elements c
+pub record Slices (c : Content) (item isil set usage media second other : List ℕ) : Type 0 where
+  pub s1 : item ≡ el c 1
+  pub s3 : isil ≡ el c 3
+  pub s4 : set ≡ el c 4
+  pub s5 : usage ≡ el c 5
+  pub s19 : media ≡ el c 19
+  pub s22 : second ≡ el c 22
+  pub s23 : other ≡ el c 23
 
 -- each slice holds a value of its number, or nothing
 pub record Valued (item isil set usage media second other : List ℕ) : Type 0 where

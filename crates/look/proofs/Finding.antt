@@ -15,15 +15,15 @@ use Rattle.format.specs.Chain.{libraryBlock, goodLibrary}
 use Rattle.format.specs.Elements.{numbers, placeIn, place, el}
 use Rattle.format.specs.Reading.{itemIn, ownerIn, blocksIn, goodFields, contentIn}
 use Rattle.format.specs.Slices.{Held}
-use Rattle.format.proofs.Tests.{never, and-i, and-no}
+use Rattle.format.proofs.Tests.{never, and-i, and-no, and-left}
 use Rattle.format.proofs.Sound.{library-lengths}
 use Rattle.fields.specs.declared.LibraryParts.{LibraryParts}
 use Rattle.fields.proofs.Places.{TextItem, MarkedItem, NoOwner, MarkedOwner, AlternativeOwner, IsilOwner, GoodLibrary, front-take}
 use Rattle.look.specs.declared.ItemPlace.{ItemPlace}
 use Rattle.look.specs.declared.OwnerPlace.{OwnerPlace}
 use Rattle.look.specs.declared.LibraryPlace.{LibraryPlace}
-use Rattle.look.specs.View.{isilAt}
-use Rattle.look.specs.Looking.{Sized, partFrom, IsilFits, ItemStands, OwnerHeld, OwnerStands, LibraryStands, FieldsStand}
+use Rattle.look.specs.View.{isilAt, IsilLies}
+use Rattle.look.specs.Looking.{Sized, partFrom, ItemStands, OwnerHeld, OwnerStands, LibraryStands, FieldsStand}
 use Rattle.look.proofs.Holding.{part-part, held-none, held-within, held-length}
 
 -- ---- the item field
@@ -51,7 +51,7 @@ pub owner-isil : (t : List ℕ) (p : OwnerPlace) (o : List ℕ) → alternate o 
 owner-isil t p o a e least inside short fits none =
     record {
       isil = rw a e;
-      fits = record { basic = least; inside = inside; short = short; fits = omega (arith, ap length e) };
+      lies = record { basic = least; inside = inside; short = short; fits = omega (arith, ap length e) };
       other = rw a none;
     }
 
@@ -62,7 +62,7 @@ unfolding partFrom
 owner-other t m p o a least h =
     record {
       isil = rw a refl;
-      fits = record { basic = least; inside = omega arith; short = omega arith; fits = omega arith };
+      lies = record { basic = least; inside = omega arith; short = omega arith; fits = omega arith };
       other = rw a h;
     }
 
@@ -77,9 +77,9 @@ module _ (t : List ℕ) (sized : Sized t) where
         is = sym (front-take 13 (drop 21 t) (drop 21 t) (sym (take-length (drop 21 t))));
       }
 
-  none-fits : IsilFits t 0 none
+  none-lies : IsilLies t 0 none
   unfolding partFrom
-  none-fits = record { basic = sized .least; inside = omega arith; short = omega arith; fits = omega arith }
+  none-lies = record { basic = sized .least; inside = omega arith; short = omega arith; fits = omega arith }
 
   pub owner-nowhere : NoOwner (part 21 13 t) → OwnerStands t (record { marked = false; prefix = 0; isil = none; other = none })
   unfolding same partFrom
@@ -87,7 +87,7 @@ module _ (t : List ℕ) (sized : Sized t) where
       record {
         good = f .good;
         marks = ap marked (f .said);
-        here = λ e. rw (f .said) (record { isil = refl; fits = none-fits; other = held-none t });
+        here = λ e. rw (f .said) (record { isil = refl; lies = none-lies; other = held-none t });
       }
 
   pub owner-away : MarkedOwner (part 21 13 t) → OwnerStands t (record { marked = true; prefix = 0; isil = none; other = none })
@@ -174,9 +174,6 @@ fields-stand t i o l s h fi fo fl =
       library = fl;
     }
 
-and-first : (a b : Bool) → a ≡ false → a && b ≡ false
-and-first a b e = rw e
-
 module _ (t : List ℕ) where
   pub ordinal-breaks : getD t 1 0 < getD t 2 0 → goodFields t ≡ false
   unfolding goodFields
@@ -184,11 +181,11 @@ module _ (t : List ℕ) where
 
   pub item-breaks : goodItem (itemIn t) ≡ false → goodFields t ≡ false
   unfolding goodFields
-  item-breaks h = and-first _ _ (and-first _ _ (and-no (leb (getD t 2 0) (getD t 1 0)) (goodItem (itemIn t)) h))
+  item-breaks h = and-left _ _ (and-left _ _ (and-no (leb (getD t 2 0) (getD t 1 0)) (goodItem (itemIn t)) h))
 
   pub owner-breaks : goodOwner (ownerIn t) ≡ false → goodFields t ≡ false
   unfolding goodFields
-  owner-breaks h = and-first _ _ (and-no (leb (getD t 2 0) (getD t 1 0) && goodItem (itemIn t)) (goodOwner (ownerIn t)) h)
+  owner-breaks h = and-left _ _ (and-no (leb (getD t 2 0) (getD t 1 0) && goodItem (itemIn t)) (goodOwner (ownerIn t)) h)
 
   pub library-breaks : goodLibrary (libraryBlock (blocksIn t)) ≡ false → goodFields t ≡ false
   unfolding goodFields

@@ -9,10 +9,11 @@ use mathlib.Core.List.{List, [], _∷_}
 use lib.ListN.{length, take, drop, getD, length-take, length-drop}
 use lib.Seq.{take-nil, take-take, drop-drop, getD-take, getD-drop}
 use lib.Dec.{eqb}
-use borrow.Author.Tests.{eq-eqb, ne-eqb, eqb-true, eqb-false}
+use borrow.Author.Tests.{eqb-true, eqb-false}
 use Rattle.format.specs.declared.Part.{Part}
 use Rattle.format.specs.Bytes.{if_then_else_, isEmpty, part}
 use Rattle.format.specs.Slices.{Held}
+use Rattle.format.proofs.Strings.{empty-length}
 use Rattle.look.specs.Looking.{partFrom}
 
 -- ---- a part of a part
@@ -27,23 +28,25 @@ pub part-part : (i n j m : ℕ) (t : List ℕ) → i + n ≤ m → part i n (par
 part-part i n j m t h =
     ap (take n) (drop-take i m (drop j t)) ∙ take-take n (m - i) (drop i (drop j t)) (omega arith) ∙ ap (take n) (drop-drop i j t)
 
+-- n bytes from byte `at` on as code takes them, from their beginning to their end
+abbrev pub cut : List ℕ → ℕ → ℕ → List ℕ
+cut t at n = take (at + n - at) (drop at t)
+
+pub cut-is : (t : List ℕ) (at n : ℕ) → cut t at n ≡ part at n t
+cut-is t at n = let e : at + n - at ≡ n = omega arith in ap (λ (k : ℕ). part at k t) e
+
 -- ---- parts of a tag
 
 module _ (t : List ℕ) (p : Part) (s : List ℕ) (h : Held t p s) where
   pub held-length : length s ≡ p .len
   held-length = omega (arith, ap length (h .is), h .inside, length-take (p .len) (drop (p .at) t), length-drop (p .at) t)
 
-  -- the part as code takes it, from its beginning to its end
-  pub held-cut : take (p .at + p .len - p .at) (drop (p .at) t) ≡ s
-  held-cut = let n : p .at + p .len - p .at ≡ p .len = omega arith in ap (λ (k : ℕ). take k (drop (p .at) t)) n ∙ h .is
+  pub held-cut : cut t (p .at) (p .len) ≡ s
+  held-cut = cut-is t (p .at) (p .len) ∙ h .is
 
   -- a part has no bytes exactly where what it holds has none
   pub held-empty : isEmpty s ≡ eqb (p .len) 0
-  held-empty = go s held-length
-    where
-      go : (s : List ℕ) → length s ≡ p .len → isEmpty s ≡ eqb (p .len) 0
-      go [] e = sym (eq-eqb (p .len) 0 (omega arith))
-      go (x ∷ s) e = sym (ne-eqb (p .len) 0 (omega arith))
+  held-empty = empty-length s ∙ ap (λ (n : ℕ). eqb n 0) held-length
 
   pub held-first : 1 ≤ p .len → getD s 0 0 ≡ getD t (p .at) 0
   held-first k =

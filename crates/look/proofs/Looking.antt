@@ -3,7 +3,7 @@ use mathlib.Core.Path.{_≡_, refl, sym, ap, _∙_}
 use mathlib.Core.Logic.{inl, inr}
 use Prim.Native.Nat.{ℕ, _+_, _*_, _/_, _%_, _≤_, _<_}
 use native.Mathlib.Omega.{arith}
-use mathlib.Core.Bool.{Bool, true, false, not, _&&_, _||_, Bool·beq}
+use mathlib.Core.Bool.{Bool, true, false, not, _&&_, _||_, Bool·beq, and-true}
 use mathlib.Core.List.{List, [], _∷_}
 use lib.ListN.{length, take, getD, length-append}
 use lib.Seq.{drop-cons}
@@ -20,8 +20,8 @@ use Rattle.format.specs.Elements.{numbers, placeIn, place, el}
 use Rattle.format.specs.Reading.{mainUsage, itemIn, ownerIn, walked, blocksIn, libraryOn, goodFields, agree, ownerOn, contentIn, tagSteps}
 use Rattle.format.specs.Calls.{ownLayout}
 use Rattle.format.specs.Slices.{Held}
-use Rattle.format.proofs.Tests.{never, and-l, and-r, and-iff, and-no, not-t, not-f}
-use Rattle.format.proofs.Answers.{first-ok, first-no, next-ok, next-no, next-inv, none-ok, passed-ok, passed-no}
+use Rattle.format.proofs.Tests.{never, beq-false, and-l, and-r, and-iff, and-no, not-t, not-f}
+use Rattle.format.proofs.Answers.{first-ok, first-no, next-ok, next-no, none-ok, passed-ok, passed-no}
 use Rattle.format.proofs.Strings.{nil-of}
 use Rattle.format.proofs.Fields.{isil-whole}
 use Rattle.format.proofs.Layouts.{size-cases, size-most}
@@ -29,11 +29,10 @@ use Rattle.format.proofs.Sound.{library-tests, agree-owner}
 use Rattle.chain.proofs.Laws.{Surveyed}
 use Rattle.chain.proofs.Piece.{OnePiece, in-one-piece, own-piece}
 use Rattle.look.specs.View.{Viewed, judged}
-use Rattle.look.specs.declared.View.{View}
 use Rattle.look.specs.declared.ItemPlace.{ItemPlace}
 use Rattle.look.specs.declared.OwnerPlace.{OwnerPlace}
 use Rattle.look.specs.declared.LibraryPlace.{LibraryPlace}
-use Rattle.look.specs.Looking.{Sized, Begun, partFrom, IsilFits, OwnerHeld, OwnerStands, LibraryStands, FieldsStand, Counted, Pieced, pieceBy}
+use Rattle.look.specs.Looking.{Sized, Begun, partFrom, OwnerHeld, OwnerStands, LibraryStands, FieldsStand, Counted, Pieced, pieceBy}
 use Rattle.look.proofs.Holding.{held-empty, held-first, held-from, held-none}
 use Rattle.look.proofs.Finding.{owner-isil, owner-other}
 
@@ -45,10 +44,6 @@ size-passed t e =
       least = elim (size-cases pageSize (length t) e) [ inl h ↦ omega (arith, h) | inr h ↦ omega (arith, h) ];
       most = size-most pageSize (length t) e;
     }
-
-and-true : (b : Bool) → b && true ≡ b
-and-true true = refl
-and-true false = refl
 
 -- the CRC's two bytes, low byte first
 check-bytes : (t : List ℕ) (k : ℕ) → Sized t → same (part 19 2 t) (le16 k) ≡ eqb (getD t 19 0) (k % 256) && (eqb (getD t 20 0) (k / 256 % 256) && true)
@@ -139,17 +134,13 @@ isil-short o e =
       leb-true (length (past hyphen o)) 11 (h .0 .1 .1),
     )
 
-unmarked : (x : Bool) → Bool·beq x false ≡ true → x ≡ false
-unmarked true e = sym e
-unmarked false e = refl
-
 module _ (t : List ℕ) (l : LibraryPlace) (f : LibraryStands t l) where
   -- block 1 has no owner: as the owner field says
   pub owner-in-field : (o : OwnerPlace) → OwnerStands t o → agree t ≡ true → l .owner .len ≡ 0 → OwnerHeld t o (ownerOn t)
   unfolding ownerOn
   owner-in-field o g a e =
       let none : isEmpty (libraryOn t .owner) ≡ true = held-empty t _ _ (f .owner) ∙ eq-eqb _ 0 e in
-      let m : marked (ownerSaid (ownerIn t)) ≡ false = unmarked _ (rw none at (agree-owner t a)) in
+      let m : marked (ownerSaid (ownerIn t)) ≡ false = beq-false _ (rw none at (agree-owner t a)) in
       rw none (g .here (sym (g .marks) ∙ m))
 
   module _ (sized : Sized t) (some : l .owner .len ≡ 0 → ⊥) where
@@ -267,9 +258,7 @@ module _ (t : List ℕ) (i : ItemPlace) (o : OwnerPlace) (l : LibraryPlace) (f :
       record {
         item = rw (f .item .marks) (first-stands (i .marked) refl);
         isil = h .isil;
-        isil-inside = h .fits .inside;
-        isil-short = h .fits .short;
-        isil-fits = h .fits .fits;
+        isil-lies = h .lies;
         set = refl;
         usage = u;
         media = f .library .media;
@@ -281,13 +270,3 @@ module _ (t : List ℕ) (i : ItemPlace) (o : OwnerPlace) (l : LibraryPlace) (f :
         blocks = p .is;
         own = p .own;
       }
-
--- what a view tells of the ISIL is enough to lay it down
-pub isil-ready : (t : List ℕ) (v : View) → judged t ≡ got tt → Viewed t v → IsilFits t (v .prefix) (v .isil)
-isil-ready t v j w =
-    record {
-      basic = size-passed t (next-inv 1 _ _ tt tt j .0) .least;
-      inside = w .isil-inside;
-      short = w .isil-short;
-      fits = w .isil-fits;
-    }

@@ -7,7 +7,7 @@ use lib.ListN.{length, getD}
 use lib.Dec.{eqb}
 use Rattle.format.specs.declared.Part.{Part}
 use Rattle.format.specs.Answers.{refused, plain}
-use Rattle.format.specs.Bytes.{if_then_else_, same, le16, part, joined, filled}
+use Rattle.format.specs.Bytes.{if_then_else_, same, le16, part, joined}
 use Rattle.format.specs.Pages.{pageSize, goodSize}
 use Rattle.format.specs.Crc.{crc, covered}
 use Rattle.format.specs.Fields.{alternate, marked, goodItem, ownerSaid, goodOwner}
@@ -16,7 +16,7 @@ use Rattle.format.specs.Elements.{el}
 use Rattle.format.specs.Reading.{itemIn, ownerIn, blocksIn, libraryOn, goodFields, contentIn}
 use Rattle.format.specs.Calls.{ownLayout}
 use Rattle.format.specs.Slices.{Held}
-use Rattle.look.specs.View.{isilAt, judged}
+use Rattle.look.specs.View.{isilAt, IsilLies, judged}
 use Rattle.look.specs.declared.Look.{Look}
 use Rattle.look.specs.declared.Look.the-variants as look
 use Rattle.look.specs.declared.Basic.{Basic}
@@ -67,13 +67,6 @@ basicNumber (basic.Refused k) = k
 unfoldable pub partFrom : ℕ → ℕ → Part
 partFrom at len = record { at = if eqb len 0 then 0 else at; len = len }
 
--- an ISIL lies inside the tag, and is no longer than one can be
-pub record IsilFits (t : List ℕ) (prefix : ℕ) (isil : Part) : Type 0 where
-  pub basic : 32 ≤ length t
-  pub inside : isil .at + isil .len ≤ length t
-  pub short : prefix ≤ 2
-  pub fits : length (isilAt t prefix isil) ≤ 16
-
 -- the item field is good; it holds the marker, or the item stands in the part
 pub record ItemStands (t : List ℕ) (p : ItemPlace) : Type 0 where
   pub good : goodItem (itemIn t) ≡ true
@@ -88,7 +81,7 @@ ItemSays t item.Bad = goodItem (itemIn t) ≡ false
 -- the owner o, or none, stands so: it is an ISIL, or an alternative owner
 pub record OwnerHeld (t : List ℕ) (p : OwnerPlace) (o : List ℕ) : Type 0 where
   pub isil : isilAt t (p .prefix) (p .isil) ≡ (if alternate o then [] else o)
-  pub fits : IsilFits t (p .prefix) (p .isil)
+  pub lies : IsilLies t (p .prefix) (p .isil)
   pub other : Held t (p .other) (if alternate o then o else [])
 
 -- the owner field is good; it holds the marker, or the owner that it says stands so
@@ -148,9 +141,3 @@ pieceBy library length size end =
     if not (eqb length 0) && not (eqb library 34) then partFrom 0 0 else
     if not (eqb (34 + length + size) end) then partFrom 0 0 else
     partFrom (34 + length) size
-
--- ---- an ISIL laid down
-
--- s stands at the front of the buffer, and r is its length
-abbrev pub laidInFront : List ℕ → List ℕ → ℕ → List ℕ → Type 0
-laidInFront s before r after = (r ≡ length s) × (after ≡ filled s before)

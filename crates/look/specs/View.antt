@@ -24,6 +24,13 @@ isilAt t prefix isil =
     if eqb prefix 0 then part (isil .at) (isil .len) t
     else part 21 prefix t ++ (hyphen ∷ part (isil .at) (isil .len) t)
 
+-- it lies inside the tag, and is no longer than one can be
+pub record IsilLies (t : List ℕ) (prefix : ℕ) (isil : Part) : Type 0 where
+  pub basic : 32 ≤ length t
+  pub inside : isil .at + isil .len ≤ length t
+  pub short : prefix ≤ 2
+  pub fits : length (isilAt t prefix isil) ≤ 16
+
 -- the ISIL that a view tells of
 abbrev pub isilSeen : List ℕ → View → List ℕ
 isilSeen t v = isilAt t (v .prefix) (v .isil)
@@ -32,9 +39,7 @@ isilSeen t v = isilAt t (v .prefix) (v .isil)
 pub record Viewed (t : List ℕ) (v : View) : Type 0 where
   pub item : Held t (v .item) (el (contentIn t) 1)
   pub isil : isilSeen t v ≡ el (contentIn t) 3
-  pub isil-inside : v .isil .at + v .isil .len ≤ length t
-  pub isil-short : v .prefix ≤ 2
-  pub isil-fits : length (isilSeen t v) ≤ 16
+  pub isil-lies : IsilLies t (v .prefix) (v .isil)
   pub set : setBytes (v .parts) (v .ordinal) ≡ el (contentIn t) 4
   pub usage : v .usage ∷ [] ≡ el (contentIn t) 5
   pub media : Held t (v .media) (el (contentIn t) 19)

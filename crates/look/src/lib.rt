@@ -10,6 +10,7 @@ ghost use mathlib.Core.List.{[], _∷_, _++_};
 ghost use lib.Dec.{eqb};
 ghost use lib.ListN.{length};
 ghost use Rattle.format.specs.Bytes.{if_then_else_, same, le16, part};
+ghost use Rattle.format.specs.Pieces.{stored};
 ghost use Rattle.format.specs.Crc.{crc, covered};
 ghost use Rattle.format.specs.Fields.{hyphen, alternate};
 ghost use Rattle.format.specs.Chain.{libraryBlock};
@@ -17,8 +18,8 @@ ghost use Rattle.format.specs.Elements.{el};
 ghost use Rattle.format.specs.Slices.{Held};
 ghost use Rattle.format.specs.Reading.{blocksIn, agree, ownerOn, contentIn};
 ghost use Rattle.fields.specs.Forms.{ownerForm};
-ghost use Rattle.look.specs.View.{isilAt, Viewed, Looked};
-ghost use Rattle.look.specs.Looking.{Sized, lookNumber, BasicSays, basicNumber, partFrom, IsilFits, ItemSays, OwnerHeld, OwnerStands, OwnerSays, LibraryStands, LibrarySays, FieldsStand, FieldsSay, Counted, Pieced, pieceBy, laidInFront};
+ghost use Rattle.look.specs.View.{isilAt, IsilLies, Viewed, Looked};
+ghost use Rattle.look.specs.Looking.{Sized, lookNumber, BasicSays, basicNumber, partFrom, ItemSays, OwnerHeld, OwnerStands, OwnerSays, LibraryStands, LibrarySays, FieldsStand, FieldsSay, Counted, Pieced, pieceBy};
 
 // What a readable tag holds and where: parts of the tag that are elements in sheet form, none where a part has no bytes. The owner's
 // ISIL, where `prefix` is not 0, is that many bytes from byte 21, a hyphen, and the part `isil`; else the part alone. There are `count`
@@ -439,7 +440,7 @@ pub fn look_number(l: Look) -> u32
 // An ISIL's two sides with a hyphen between them, laid down at the front of `out`; answers their length together.
 fn hyphened(prefix: &[u8], unit: &[u8], out: &mut [u8]) -> usize
     requires { ⌜ length (now prefix) + 1 + length (now unit) ≤ length (now out) ⌝ }
-    ensures { λ r. ⌜ laidInFront (now (prefix .entry) ++ (hyphen ∷ now (unit .entry))) (now (out .entry)) r (now (out .exit)) ⌝ }
+    ensures { λ r. ⌜ stored (now (out .entry)) 0 (now (prefix .entry) ++ (hyphen ∷ now (unit .entry))) r (now (out .exit)) ⌝ }
 {
     let at = bytes::copy(prefix, out);
     out[at] = b'-';
@@ -449,8 +450,8 @@ fn hyphened(prefix: &[u8], unit: &[u8], out: &mut [u8]) -> usize
 
 // The owner's ISIL as a sheet has it, laid down at the front of `out`; answers its length, 0 where there is none.
 pub fn isil_of(tag: &[u8], prefix: usize, isil: Part, out: &mut [u8; 16]) -> usize
-    requires { ⌜ IsilFits (now tag) prefix isil ⌝ }
-    ensures { λ r. ⌜ laidInFront (isilAt (now (tag .entry)) prefix isil) (now (out .entry)) r (now (out .exit)) ⌝ }
+    requires { ⌜ IsilLies (now tag) prefix isil ⌝ }
+    ensures { λ r. ⌜ stored (now (out .entry)) 0 (isilAt (now (tag .entry)) prefix isil) r (now (out .exit)) ⌝ }
 {
     let at = isil.at;
     let end = at + isil.len;

@@ -11,7 +11,7 @@ use Rattle.format.specs.Answers.{got, refused, plain, Step, need, inOrder}
 use Rattle.format.specs.Bytes.{if_then_else_, bytes, joined, same, filled}
 use Rattle.format.specs.Pages.{pageSize, goodSize, lockMap, changed}
 use Rattle.format.specs.Elements.{Content, numbers, placeIn, place, el, put, known, value, clash}
-use Rattle.format.specs.Slices.{elements, Valued}
+use Rattle.format.specs.Slices.{elements, Slices, Valued}
 use Rattle.format.specs.Layout.{image, fits}
 use Rattle.format.specs.Reading.{contentIn, tagSteps}
 use Rattle.format.specs.Calls.{layingSteps, layoutIs, ownLayout, editSteps, Edited, editing}
@@ -29,7 +29,7 @@ use Rattle.look.specs.View.{judged}
 use Rattle.image.specs.Laying.{laidGiven, laying, Lays}
 use Rattle.tag.specs.Picking.{picked}
 use Rattle.tag.specs.Editing.{Copied, Editable}
-use Rattle.tag.proofs.Seen.{Slices, slices-elements, slices-valued, seen-elements, seen-valued, seen-clear, seen-sound, seen-readable}
+use Rattle.tag.proofs.Seen.{slices-elements, slices-valued, seen-elements, seen-valued, seen-clear, seen-sound, seen-readable}
 use Rattle.tag.proofs.Writer.{laying-joined}
 
 -- ---- one element picked
@@ -120,18 +120,15 @@ module _ (t locks item isil set usage media second other carried : List ℕ) (h 
   abbrev c : Content
   c = contentIn t
 
-  pub held : Slices c item isil set usage media second other
-  held = record { s1 = h .s1; s3 = h .s3; s4 = h .s4; s5 = h .s5; s19 = h .s19; s22 = h .s22; s23 = h .s23 }
-
   pub held-valued : Valued item isil set usage media second other
-  held-valued = slices-valued c item isil set usage media second other held (seen-valued t (h .seen) (h .all-bytes))
+  held-valued = slices-valued c item isil set usage media second other (h .held) (seen-valued t (h .seen) (h .all-bytes))
 
   -- the elements with their carried blocks in a row
   abbrev rowed : Content
   rowed = elements item isil set usage media second other (carried ∷ [])
 
   rowed-is : rowed ≡ record { slots = c .slots; carried = carried ∷ [] }
-  rowed-is = slices-elements c item isil set usage media second other held (carried ∷ []) ∙ seen-elements t (carried ∷ [])
+  rowed-is = slices-elements c item isil set usage media second other (h .held) (carried ∷ []) ∙ seen-elements t (carried ∷ [])
 
   one-row : joined (carried ∷ []) ≡ joined (c .carried)
   one-row = joined-one carried ∙ h .row
@@ -258,13 +255,7 @@ copy-editable b t locks item isil set usage media second other carried k j y h r
       sized = k .sized;
       seen = rw e at j;
       all-bytes = rw e at y;
-      s1 = rw e at (h .s1);
-      s3 = rw e at (h .s3);
-      s4 = rw e at (h .s4);
-      s5 = rw e at (h .s5);
-      s19 = rw e at (h .s19);
-      s22 = rw e at (h .s22);
-      s23 = rw e at (h .s23);
+      held = rw e at h;
       row = rw e at r;
     }
 

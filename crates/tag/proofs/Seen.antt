@@ -1,29 +1,29 @@
 -- What is known of a tag once it has been looked at.
 use mathlib.Core.Path.{_≡_, refl, sym, ap, ap₂, subst, _∙_}
-use mathlib.Core.Logic.{inl, inr}
 use Prim.Native.Nat.{ℕ, _+_, _-_, _≤_, _<_}
 use native.Mathlib.Omega.{arith}
 use mathlib.Core.Bool.{true, false}
 use mathlib.Core.List.{List, [], _∷_, _++_, append-nil}
-use lib.ListN.{length, take, drop, length-append, length-drop}
-use lib.Seq.{take-append-seam, take-all, length-take-le}
+use lib.ListN.{length, take, drop, length-drop}
+use lib.Seq.{take-all, length-take-le}
 use Rattle.format.specs.Answers.{Refusal, got, refused, plain, Step, inOrder}
-use Rattle.format.specs.Bytes.{bytes, part, joined, filled}
+use Rattle.format.specs.Bytes.{bytes, part, joined}
 use Rattle.format.specs.Pages.{pageSize, goodSize}
 use Rattle.format.specs.Elements.{Content, numbers, place, placeIn, el, setBytes, clash, sound}
-use Rattle.format.specs.Slices.{elements, Valued, Held}
+use Rattle.format.specs.Slices.{elements, Slices, Valued}
 use Rattle.format.specs.Reading.{contentIn, tagSteps, Readable}
 use Rattle.format.proofs.Answers.{next-inv, in-order-append, then-no}
 use Rattle.format.proofs.Readable.{on-readable}
 use Rattle.format.proofs.Slots.{sound-facts, sound-parts}
 use Rattle.format.proofs.Sound.{read-sound}
 use Rattle.format.specs.declared.Part.{Part}
-use Rattle.format.proofs.Layouts.{size-most, size-cases}
+use Rattle.format.proofs.Layouts.{size-most}
 use Rattle.format.proofs.Strings.{le16-byte}
 use Rattle.look.specs.declared.Look.{Look}
 use Rattle.look.specs.declared.View.{View}
 use Rattle.look.specs.declared.Look.the-variants.{Seen, Refused}
-use Rattle.look.specs.View.{Viewed, Looked, seen, refuses, lookSteps, judged}
+use Rattle.look.proofs.Holding.{cut, cut-is, held-cut}
+use Rattle.look.specs.View.{isilSeen, Viewed, Looked, seen, refuses, lookSteps, judged}
 use Rattle.render.specs.Rendering.{carriedOn}
 
 -- ---- the answer of looking
@@ -83,49 +83,39 @@ seen-whole t = seen-elements t (carriedOn t) ∙ ap (λ (bs : List (List ℕ)). 
 
 -- ---- the slices that the code lends
 
--- a part of the tag, cut from its start to its end
-pub cut-part : (t : List ℕ) (p : Part) → take (p .at + p .len - p .at) (drop (p .at) t) ≡ part (p .at) (p .len) t
-cut-part t p =
-    let k : p .at + p .len - p .at ≡ p .len = omega arith in
-    ap (λ (n : ℕ). take n (drop (p .at) t)) k
-
-pub held-part : (t : List ℕ) (p : Part) (s : List ℕ) → Held t p s → take (p .at + p .len - p .at) (drop (p .at) t) ≡ s
-held-part t p s h = cut-part t p ∙ h .is
-
 -- the carried blocks, where the part that the view tells of is as long as they
-pub seen-blocks : (t : List ℕ) (v : View) → Viewed t v → let s = take (v .blocks .at + v .blocks .len - v .blocks .at) (drop (v .blocks .at) t) in
-    length s ≡ v .size → s ≡ joined (carriedOn t)
+pub seen-blocks : (t : List ℕ) (v : View) → Viewed t v → let s = cut t (v .blocks .at) (v .blocks .len) in length s ≡ v .size → s ≡ joined (carriedOn t)
 seen-blocks t v w e =
     let p : Part = v .blocks in
+    let c : cut t (p .at) (p .len) ≡ part (p .at) (p .len) t = cut-is t (p .at) (p .len) in
     let l : length (part (p .at) (p .len) t) ≡ p .len = length-take-le (p .len) (drop (p .at) t) (omega (arith, length-drop (p .at) t, w .blocks-inside)) in
-    let h : p .len ≡ v .size = sym l ∙ ap length (sym (cut-part t p)) ∙ e in
-    cut-part t p ∙ w .blocks h ∙ ap joined (seen-carried t)
+    c ∙ w .blocks (sym l ∙ ap length (sym c) ∙ e) ∙ ap joined (seen-carried t)
 
 -- the rest of a slice
 pub rest-part : (s : List ℕ) (at : ℕ) → take (length s - at) (drop at s) ≡ drop at s
 rest-part s at = take-all (length s - at) (drop at s) (omega (arith, length-drop at s))
 
--- the front of a buffer that was filled
-pub front-part : (s z own : List ℕ) (n : ℕ) → n ≡ length s → own ≡ filled s z → take (n - 0) own ≡ s
-front-part s z own n hn e =
-    let k : n - 0 ≡ length s = omega arith in
-    ap₂ take k e ∙ take-append-seam s (drop (length s) z)
-
-pub front-within : (s z own : List ℕ) (n : ℕ) → n ≡ length s → own ≡ filled s z → length s ≤ length z → n ≤ length own
-front-within s z own n hn e h = omega (arith, ap length e, length-append s (drop (length s) z))
-
-pub set-part : (p q : ℕ) → p < 256 → q < 256 → p ∷ 0 ∷ q ∷ 0 ∷ [] ≡ setBytes p q
+set-part : (p q : ℕ) → p < 256 → q < 256 → p ∷ 0 ∷ q ∷ 0 ∷ [] ≡ setBytes p q
 set-part p q hp hq = sym (ap₂ (λ (x y : List ℕ). x ++ y) (le16-byte p (omega arith)) (le16-byte q (omega arith)))
 
--- seven slices that hold the elements c
-pub record Slices (c : Content) (item isil set usage media second other : List ℕ) : Type 0 where
-  pub s1 : item ≡ el c 1
-  pub s3 : isil ≡ el c 3
-  pub s4 : set ≡ el c 4
-  pub s5 : usage ≡ el c 5
-  pub s19 : media ≡ el c 19
-  pub s22 : second ≡ el c 22
-  pub s23 : other ≡ el c 23
+-- the slices that a view tells of, the ISIL laid out elsewhere
+abbrev pub SlicesSeen : List ℕ → View → List ℕ → Type 0
+SlicesSeen t v isil =
+    Slices (contentIn t) (cut t (v .item .at) (v .item .len)) isil (v .parts ∷ 0 ∷ v .ordinal ∷ 0 ∷ []) (v .usage ∷ [])
+    (cut t (v .media .at) (v .media .len)) (cut t (v .second .at) (v .second .len)) (cut t (v .other .at) (v .other .len))
+
+-- they hold the elements of the tag
+pub viewed-slices : (t : List ℕ) (v : View) (isil : List ℕ) → Viewed t v → isil ≡ isilSeen t v → v .parts < 256 → v .ordinal < 256 → SlicesSeen t v isil
+viewed-slices t v isil w e hp ho =
+    record {
+      s1 = held-cut t (v .item) _ (w .item);
+      s3 = e ∙ w .isil;
+      s4 = set-part (v .parts) (v .ordinal) hp ho ∙ w .set;
+      s5 = w .usage;
+      s19 = held-cut t (v .media) _ (w .media);
+      s22 = held-cut t (v .second) _ (w .second);
+      s23 = held-cut t (v .other) _ (w .other);
+    }
 
 module _ (c : Content) (item isil set usage media second other : List ℕ) (h : Slices c item isil set usage media second other) where
   pub slices-elements : (bs : List (List ℕ))
@@ -134,6 +124,3 @@ module _ (c : Content) (item isil set usage media second other : List ℕ) (h : 
 
   pub slices-valued : Valued (el c 1) (el c 3) (el c 4) (el c 5) (el c 19) (el c 22) (el c 23) → Valued item isil set usage media second other
   slices-valued v = rw (h .s1, h .s3, h .s4, h .s5, h .s19, h .s22, h .s23) v
-
-pub seen-least : (t : List ℕ) → judged t ≡ got tt → 32 ≤ length t
-seen-least t j = elim (size-cases pageSize (length t) (seen-size t j)) [ inl e ↦ omega arith | inr e ↦ omega arith ]

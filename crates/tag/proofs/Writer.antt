@@ -8,7 +8,7 @@ use Rattle.format.specs.Answers.{Answer, got, refused, plain, need, afterwards}
 use Rattle.format.specs.Bytes.{joined}
 use Rattle.format.specs.Pages.{pageSize, goodSize, lockMap}
 use Rattle.format.specs.Elements.{Content, numbers, place, placeIn, el}
-use Rattle.format.specs.Slices.{elements}
+use Rattle.format.specs.Slices.{elements, Slices}
 use Rattle.format.specs.Sheet.{rightSheet, entriesIn, goodValues, contentOf}
 use Rattle.format.specs.Layout.{image}
 use Rattle.format.specs.Calls.{layingSteps, sheetContent, writeSteps, writing}
@@ -19,7 +19,7 @@ use Rattle.format.proofs.Joined.{joined-one, image-joined, fits-joined, clash-j
 use Rattle.sheet.specs.declared.Places.{Places}
 use Rattle.image.specs.declared.Laid.{Laid}
 use Rattle.image.specs.declared.Laid.the-variants as laid
-use Rattle.tag.proofs.Seen.{Slices, slices-elements}
+use Rattle.tag.proofs.Seen.{slices-elements}
 use Rattle.sheet.specs.Scanning.{scanning}
 use Rattle.sheet.proofs.Placed.{scan-good}
 use Rattle.tag.specs.Placed.{Placed}

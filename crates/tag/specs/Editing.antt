@@ -7,7 +7,7 @@ use lib.ListN.{length}
 use Rattle.format.specs.Answers.{got}
 use Rattle.format.specs.Bytes.{bytes, joined}
 use Rattle.format.specs.Pages.{pageSize, goodSize, lockMap}
-use Rattle.format.specs.Elements.{el}
+use Rattle.format.specs.Slices.{Slices}
 use Rattle.format.specs.Reading.{contentIn}
 use Rattle.look.specs.View.{judged}
 
@@ -21,11 +21,5 @@ pub record Editable (t locks item isil set usage media second other carried : Li
   pub sized : goodSize pageSize (length t) && lockMap pageSize locks (length t) ≡ true
   pub seen : judged t ≡ got tt
   pub all-bytes : bytes t ≡ true
-  pub s1 : item ≡ el (contentIn t) 1
-  pub s3 : isil ≡ el (contentIn t) 3
-  pub s4 : set ≡ el (contentIn t) 4
-  pub s5 : usage ≡ el (contentIn t) 5
-  pub s19 : media ≡ el (contentIn t) 19
-  pub s22 : second ≡ el (contentIn t) 22
-  pub s23 : other ≡ el (contentIn t) 23
+  pub held : Slices (contentIn t) item isil set usage media second other
   pub row : carried ≡ joined (contentIn t .carried)

@@ -1,35 +1,25 @@
 -- `look::isil_of`: the parts as code takes them, from beginning to end, are those of the ISIL that stands so.
-use mathlib.Core.Path.{_≡_, ap, ap₂, _∙_}
+use mathlib.Core.Path.{_≡_, sym, ap, ap₂}
 use Prim.Native.Nat.{ℕ, _+_, _-_}
 use native.Mathlib.Omega.{arith}
 use mathlib.Core.List.{List, _∷_, _++_}
-use lib.ListN.{length, take, drop, length-append}
-use lib.Seq.{take-length}
+use lib.ListN.{length, length-append}
 use borrow.Author.Needs.{needs}
 use borrow.Author.Tests.{eq-eqb, ne-eqb}
 use Rattle.format.specs.declared.Part.{Part}
-use Rattle.format.specs.Bytes.{filled}
+use Rattle.format.proofs.Pieces.{stored-whole}
 use Rattle.format.specs.Fields.{hyphen}
 use Rattle.look.specs.View.{isilAt}
+use Rattle.look.proofs.Holding.{cut, cut-is}
 use Rattle.look.proofs.isil_of.Statement.{statement}
 use Rattle.look.proofs.isil_of.Tie as tie
 
--- the bytes from a to a + n
-abbrev cut : List ℕ → ℕ → ℕ → List ℕ
-cut t a n = take (a + n - a) (drop a t)
-
-cut-is : (t : List ℕ) (a n : ℕ) → take n (drop a t) ≡ cut t a n
-cut-is t a n = let e : n ≡ a + n - a = omega arith in ap (λ (k : ℕ). take k (drop a t)) e
-
 alone : (t : List ℕ) (prefix : ℕ) (isil : Part) → prefix ≡ 0 → isilAt t prefix isil ≡ cut t (isil .at) (isil .len)
-alone t prefix isil e = rw (eq-eqb prefix 0 e) (cut-is t (isil .at) (isil .len))
+alone t prefix isil e = rw (eq-eqb prefix 0 e) (sym (cut-is t (isil .at) (isil .len)))
 
 behind : (t : List ℕ) (prefix : ℕ) (isil : Part) → (prefix ≡ 0 → ⊥) → isilAt t prefix isil ≡ cut t 21 prefix ++ (hyphen ∷ cut t (isil .at) (isil .len))
 behind t prefix isil e =
-    rw (ne-eqb prefix 0 e) (ap₂ (λ (p u : List ℕ). p ++ (hyphen ∷ u)) (cut-is t 21 prefix) (cut-is t (isil .at) (isil .len)))
-
-copied : (s d x : List ℕ) → x ≡ take (length s) s ++ drop (length s) d → x ≡ filled s d
-copied s d x e = e ∙ ap (λ (l : List ℕ). l ++ drop (length s) d) (take-length s)
+    rw (ne-eqb prefix 0 e) (sym (ap₂ (λ (p u : List ℕ). p ++ (hyphen ∷ u)) (cut-is t 21 prefix) (cut-is t (isil .at) (isil .len))))
 
 add-end : tie.Need-add-end
 add-end c = search needs
@@ -52,7 +42,7 @@ returns : tie.Need-returns
 returns c =
     let a = c .before .before .before .before .before .before .args in
     rw (alone (a .tag .now) (a .prefix) (a .isil) (c .before .before .before .if1 .taken))
-    (c .copy .ensures .0, copied (cut (a .tag .now) (a .isil .at) (a .isil .len)) (a .out .now) _ (c .copy .ensures .1))
+    (stored-whole (a .out .now) (cut (a .tag .now) (a .isil .at) (a .isil .len)) _ _ (c .copy .ensures .0) (c .copy .ensures .1))
 
 add-prefix-end : tie.Need-add-prefix-end
 add-prefix-end c = search needs

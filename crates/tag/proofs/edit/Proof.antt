@@ -1,17 +1,14 @@
 -- `edit` judges size and lock map, and copies the tag, to a buffer of one length or another.
 use mathlib.Core.Path.{_≡_, refl, sym, ap, _∙_}
-use Prim.Native.Nat.{ℕ, _≤_}
+use Prim.Native.Nat.{_≤_}
 use mathlib.Core.Bool.{true, _&&_}
-use mathlib.Core.List.{List, _++_}
-use lib.ListN.{length, take, drop, replicate}
-use lib.Seq.{take-length}
-use Rattle.format.specs.Bytes.{filled}
+use lib.ListN.{length, replicate}
 use Rattle.format.specs.Pages.{pageSize, goodSize, lockMap}
 use Rattle.format.proofs.Tests.{and-l}
 use Rattle.format.proofs.Answers.{need-inv}
 use Rattle.format.proofs.Layouts.{size-most}
 use Rattle.tag.specs.Stages.{stageGiven, stageNumber}
-use Rattle.tag.proofs.Seen.{front-part, front-within}
+use Rattle.format.proofs.Pieces.{copy-fills, filled-within, filled-front}
 use Rattle.tag.proofs.Editor.{size-edits}
 use borrow.Author.Needs.{needs}
 use Rattle.tag.proofs.edit.Statement.{statement}
@@ -44,10 +41,6 @@ passed c =
 small : (c : tie.After-enum-told) → length (c .before .before .before .before .before .before .before .args .tag .now) ≤ 2048
 small c = let a = c .before .before .before .before .before .before .before .args in size-most pageSize (length (a .tag .now)) (and-l (goodSize pageSize (length (a .tag .now))) (lockMap pageSize (a .locks .now) (length (a .tag .now))) (passed c))
 
--- what a copy of t leaves in a buffer z
-copy-fills : (t z own : List ℕ) → own ≡ take (length t) t ++ drop (length t) z → own ≡ filled t z
-copy-fills t z own e = e ∙ ap (λ (x : List ℕ). x ++ drop (length t) z) (take-length t)
-
 slice-aggregate-copy : tie.Need-slice-aggregate-copy
 slice-aggregate-copy c = search needs
 
@@ -63,13 +56,13 @@ part-edit-copy-start c = search needs
 part-edit-copy-end : tie.Need-part-edit-copy-end
 part-edit-copy-end c =
     let t = c .before .before .before .before .before .before .before .before .before .before .before .before .before .args .tag .now in
-    front-within t (replicate 256 0) _ (length t) refl (copy-fills t (replicate 256 0) _ (c .before .before .copy .ensures .1)) (c .before .before .before .before .before .if1 .taken)
+    filled-within t (replicate 256 0) _ (length t) refl (copy-fills (replicate 256 0) t _ (c .before .before .copy .ensures .1))
 
 edit-copy-requires : tie.Need-edit-copy-requires
 edit-copy-requires c κs =
     let t = c .before .before .before .before .before .before .before .before .before .before .before .before .before .before .before .before .args .tag .now in
     record {
-      copy = front-part t (replicate 256 0) _ (length t) refl (copy-fills t (replicate 256 0) _ (c .before .before .before .before .before .copy .ensures .1));
+      copy = filled-front t (replicate 256 0) _ (length t) refl (copy-fills (replicate 256 0) t _ (c .before .before .before .before .before .copy .ensures .1));
       sized = passed (c .before .before .before .before .before .before .before .before .before);
     }
 
@@ -97,13 +90,13 @@ part-edit-copy-start-2 c = search needs
 part-edit-copy-end-2 : tie.Need-part-edit-copy-end-2
 part-edit-copy-end-2 c =
     let t = c .before .before .before .before .before .before .before .before .before .before .before .before .before .args .tag .now in
-    front-within t (replicate 2048 0) _ (length t) refl (copy-fills t (replicate 2048 0) _ (c .before .before .copy2 .ensures .1)) (small (c .before .before .before .before .before .before))
+    filled-within t (replicate 2048 0) _ (length t) refl (copy-fills (replicate 2048 0) t _ (c .before .before .copy2 .ensures .1))
 
 edit-copy-requires-2 : tie.Need-edit-copy-requires-2
 edit-copy-requires-2 c κs =
     let t = c .before .before .before .before .before .before .before .before .before .before .before .before .before .before .before .before .args .tag .now in
     record {
-      copy = front-part t (replicate 2048 0) _ (length t) refl (copy-fills t (replicate 2048 0) _ (c .before .before .before .before .before .copy2 .ensures .1));
+      copy = filled-front t (replicate 2048 0) _ (length t) refl (copy-fills (replicate 2048 0) t _ (c .before .before .before .before .before .copy2 .ensures .1));
       sized = passed (c .before .before .before .before .before .before .before .before .before);
     }
 

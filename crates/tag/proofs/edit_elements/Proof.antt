@@ -1,15 +1,13 @@
 -- `edit_elements`: 13, 2 and 9 by `edit_stage`, 10, 11 and 12 by `lay` with the new bytes in their place, then the old element.
 use mathlib.Core.Path.{_≡_, sym, ap, _∙_}
-use Prim.Native.Nat.{ℕ}
-use mathlib.Core.List.{List, _∷_, [], _++_}
-use lib.ListN.{length, drop}
-use lib.Seq.{take-length}
+use mathlib.Core.List.{_∷_, []}
 use Rattle.format.specs.Elements.{value}
 use Rattle.format.proofs.Tests.{and-l}
+use Rattle.format.proofs.Pieces.{copy-fills}
 use Rattle.tag.specs.Stages.{stageGiven, stageNumber}
 use Rattle.tag.specs.Stages.{laidNumber}
 use Rattle.tag.proofs.Seen.{seen-readable}
-use Rattle.tag.proofs.Editor.{Picked, picks-valued, picks-lays, held, held-valued, rowed-clear, late-edits, late-value, late-old, laid-refused-edits, laid-done-edits, held-element}
+use Rattle.tag.proofs.Editor.{Picked, picks-valued, picks-lays, held-valued, rowed-clear, late-edits, late-value, late-old, laid-refused-edits, laid-done-edits, held-element}
 use borrow.Author.Needs.{needs}
 use Rattle.tag.proofs.edit_elements.Statement.{statement}
 use Rattle.tag.proofs.edit_elements.Tie as tie
@@ -123,7 +121,7 @@ copy-requires c κs =
     let t = a .tag .now in
     let h = s .pre in
     let p = sym (c .before .before .before .before .before .before .before .before .before .before .before .before .before .before .before .before .before .before .edit-stage .ensures) ∙ ap stageGiven (c .before .before .before .before .before .before .before .before .before .before .before .before .before .before .before .before .enum-told .given .1) in
-    let w = c .before .element .ensures ∙ held-element t (a .item .now) (a .isil .now) (a .set .now) (a .usage .now) (a .media .now) (a .second .now) (a .other .now) (a .number) (held t (a .locks .now) (a .item .now) (a .isil .now) (a .set .now) (a .usage .now) (a .media .now) (a .second .now) (a .other .now) (a .carried .now) h) in
+    let w = c .before .element .ensures ∙ held-element t (a .item .now) (a .isil .now) (a .set .now) (a .usage .now) (a .media .now) (a .second .now) (a .other .now) (a .number) (h .held) in
     rw w (late-old t (a .locks .now) (a .item .now) (a .isil .now) (a .set .now) (a .usage .now) (a .media .now) (a .second .now) (a .other .now) (a .carried .now) h (a .number) (a .bytes .now) (a .old .now) p)
 
 same-length-3 : tie.Need-same-length-3
@@ -141,10 +139,10 @@ returns-3 c =
     let p = sym (c .before .before .before .before .before .before .before .before .before .before .before .before .before .before .before .before .before .before .before .before .before .edit-stage .ensures) ∙ ap stageGiven (c .before .before .before .before .before .before .before .before .before .before .before .before .before .before .before .before .before .before .before .enum-told .given .1) in
     let y = picks-lays (a .number) (a .bytes .now) (a .item .now) (a .isil .now) (a .set .now) (a .usage .now) (a .media .now) (a .second .now) (a .other .now) _ _ _ _ _ _ _ (picks (c .before .before .before .before .before .before .before .before .before .before .before)) t (a .locks .now) (a .carried .now ∷ []) _ _ (c .before .before .before .before .before .before .before .before .before .before .lay .ensures) in
     let was = c .before .before .before .before .element .result .now in
-    let w = c .before .before .before .before .element .ensures ∙ held-element t (a .item .now) (a .isil .now) (a .set .now) (a .usage .now) (a .media .now) (a .second .now) (a .other .now) (a .number) (held t (a .locks .now) (a .item .now) (a .isil .now) (a .set .now) (a .usage .now) (a .media .now) (a .second .now) (a .other .now) (a .carried .now) h) in
+    let w = c .before .before .before .before .element .ensures ∙ held-element t (a .item .now) (a .isil .now) (a .set .now) (a .usage .now) (a .media .now) (a .second .now) (a .other .now) (a .number) (h .held) in
     let e = c .before .before .copy .ensures in
     laid-done-edits t (a .locks .now) (a .item .now) (a .isil .now) (a .set .now) (a .usage .now) (a .media .now) (a .second .now) (a .other .now) (a .carried .now) h (a .number) (a .bytes .now) (a .old .now) p _ _ y _ was _ _ (c .before .before .before .before .before .before .laid .given .1) w (e .0)
-    (e .1 ∙ ap (λ (x : List ℕ). x ++ drop (length was) (a .old .now)) (take-length was))
+    (copy-fills (a .old .now) was _ (e .1))
 
 pub edit-elements-spec : {M : Type 1} → statement M
 edit-elements-spec =

@@ -1,15 +1,15 @@
 -- `edit_view` lends the parts that the view tells of: they are the elements of the tag. Where the carried blocks do not stand in one piece
 -- the tag is not the writer's own layout.
-use mathlib.Core.Path.{_∙_}
-use Prim.Native.Nat.{_+_, _-_, _≤_, _<_}
-use mathlib.Core.List.{_∷_, []}
+use mathlib.Core.Path.{_≡_, _∙_}
+use Prim.Native.Nat.{_-_, _≤_, _<_}
 use native.Mathlib.Omega.{arith}
-use lib.ListN.{length, take, drop, replicate}
-use Rattle.format.specs.Elements.{el}
-use Rattle.format.specs.Reading.{contentIn}
+use lib.ListN.{length, take, replicate}
+use Rattle.format.specs.Bytes.{filled}
 use Rattle.format.proofs.Tests.{bytes-all}
+use Rattle.format.proofs.Pieces.{stored-front, filled-within, filled-front}
 use Rattle.look.specs.View.{isilSeen}
-use Rattle.tag.proofs.Seen.{cut-part, held-part, front-part, front-within, set-part, Slices, seen-least, seen-most}
+use Rattle.look.proofs.Holding.{cut-is}
+use Rattle.tag.proofs.Seen.{SlicesSeen, viewed-slices, seen-most}
 use Rattle.tag.proofs.Editor.{copy-editable, copy-loose-edits}
 use borrow.Author.Needs.{needs}
 use Rattle.tag.proofs.edit_view.Statement.{statement}
@@ -18,6 +18,10 @@ use Rattle.tag.proofs.edit_view.Tie as tie
 -- where it begins, from where the ISIL has been laid out
 abbrev start : tie.After-isil-of → tie.Start
 start k = k .before .before .before .before .before .before .before .before .before .before .before .before .before
+
+-- the ISIL stands at the front of its buffer
+laid : (k : tie.After-isil-of) → let i = isilSeen (start k .args .before .now) (start k .args .view) in (k .isil-of .result ≡ length i) × (k .isil-of .last .1 .1 .1 .0 ≡ filled i (replicate 16 0))
+laid k = stored-front (replicate 16 0) _ (isilSeen (start k .args .before .now) (start k .args .view)) _ (k .isil-of .ensures)
 
 -- no place in the tag passes 2,048
 most : (s : tie.Start) → length (s .args .before .now) ≤ 2048
@@ -37,10 +41,7 @@ add-blocks-end : tie.Need-add-blocks-end
 add-blocks-end c = search needs
 
 isil-of-requires : tie.Need-isil-of-requires
-isil-of-requires c κs =
-    let s = c .before .before .before .before .before .before .before .before .before .before .before .before in
-    let v = s .pre .2 in
-    record { basic = seen-least (s .args .before .now) (s .pre .1); inside = v .isil-inside; short = v .isil-short; fits = v .isil-fits }
+isil-of-requires c κs = c .before .before .before .before .before .before .before .before .before .before .before .before .pre .2 .isil-lies
 
 add-item-end : tie.Need-add-item-end
 add-item-end c = search needs
@@ -72,9 +73,7 @@ part-edit-elements-start-2 c = search needs
 part-edit-elements-end-2 : tie.Need-part-edit-elements-end-2
 part-edit-elements-end-2 c =
     let k = c .before .before .before .before .before .before .before .before .before .before in
-    let s = start k in
-    let i = k .isil-of .ensures in
-    front-within (isilSeen (s .args .before .now) (s .args .view)) (replicate 16 0) _ _ (i .0) (i .1) (s .pre .2 .isil-fits)
+    let l = laid k in filled-within (isilSeen (start k .args .before .now) (start k .args .view)) (replicate 16 0) _ _ (l .0) (l .1)
 
 slice-aggregate-edit-elements : tie.Need-slice-aggregate-edit-elements
 slice-aggregate-edit-elements c = search needs
@@ -118,28 +117,11 @@ part-edit-elements-start-6 c = search needs
 part-edit-elements-end-6 : tie.Need-part-edit-elements-end-6
 part-edit-elements-end-6 c = start (c .before .before .before .before .before .before .before .before .before .before .before .before .before .before .before .before) .pre .2 .blocks-inside
 
--- the seven slices hold the elements
-slices : (k : tie.After-isil-of)
-    → let a = start k .args in
-    let t = a .before .now in
-    let v = a .view in
-    Slices (contentIn t) (take (v .item .at + v .item .len - v .item .at) (drop (v .item .at) t)) (take (k .isil-of .result - 0) (k .isil-of .last .1 .1 .1 .0))
-    (v .parts ∷ 0 ∷ v .ordinal ∷ 0 ∷ []) (v .usage ∷ []) (take (v .media .at + v .media .len - v .media .at) (drop (v .media .at) t)) (take (v .second .at + v .second .len - v .second .at) (drop (v .second .at) t)) (take (v .other .at + v .other .len - v .other .at) (drop (v .other .at) t))
+slices : (k : tie.After-isil-of) → SlicesSeen (start k .args .before .now) (start k .args .view) (take (k .isil-of .result - 0) (k .isil-of .last .1 .1 .1 .0))
 slices k =
     let s = start k in
-    let t = s .args .before .now in
-    let v = s .args .view in
-    let w = s .pre .2 in
-    let i = k .isil-of .ensures in
-    record {
-      s1 = held-part t (v .item) (el (contentIn t) 1) (w .item);
-      s3 = front-part (isilSeen t v) (replicate 16 0) _ _ (i .0) (i .1) ∙ w .isil;
-      s4 = set-part (v .parts) (v .ordinal) (bytes-two s .0) (bytes-two s .1) ∙ w .set;
-      s5 = w .usage;
-      s19 = held-part t (v .media) (el (contentIn t) 19) (w .media);
-      s22 = held-part t (v .second) (el (contentIn t) 22) (w .second);
-      s23 = held-part t (v .other) (el (contentIn t) 23) (w .other);
-    }
+    let l = laid k in
+    viewed-slices (s .args .before .now) (s .args .view) _ (s .pre .2) (filled-front (isilSeen (s .args .before .now) (s .args .view)) (replicate 16 0) _ _ (l .0) (l .1)) (bytes-two s .0) (bytes-two s .1)
 
 edit-elements-requires : tie.Need-edit-elements-requires
 edit-elements-requires c κs =
@@ -148,7 +130,7 @@ edit-elements-requires c κs =
     let t = s .args .before .now in
     let v = s .args .view in
     copy-editable t (s .args .tag .now) (s .args .locks .now) _ _ _ _ _ _ _ _ (s .pre .0) (s .pre .1) (bytes-all t (λ i h. omega (arith, c .before .before .before .before .before .before .before .before .before .before .before .before .before .before .before .before .before .before .before .before .before .before .before .before .before .before .before .before .before .before .before .shared-slice-known .given i)))
-    (slices k) (cut-part t (v .blocks) ∙ s .pre .2 .blocks (k .before .before .before .before .if1 .left))
+    (slices k) (cut-is t (v .blocks .at) (v .blocks .len) ∙ s .pre .2 .blocks (k .before .before .before .before .if1 .left))
 
 same-length : tie.Need-same-length
 same-length c = search needs

@@ -1,27 +1,32 @@
 -- `read_view` lends render the parts that the view tells of: they are the elements of the tag.
 use mathlib.Core.Path.{_≡_, ap, _∙_}
-use Prim.Native.Nat.{ℕ, _+_, _-_}
+use Prim.Native.Nat.{ℕ, _-_}
 use mathlib.Core.Bool.{true}
-use mathlib.Core.List.{List, _∷_, []}
+use mathlib.Core.List.{List}
 use native.Mathlib.Omega.{arith}
-use lib.ListN.{length, take, drop, replicate}
-use Rattle.format.specs.Bytes.{bytes, joined}
-use Rattle.format.specs.Elements.{el}
+use lib.ListN.{length, take, replicate}
+use Rattle.format.specs.Bytes.{bytes, joined, filled}
 use Rattle.format.specs.Reading.{contentIn}
 use Rattle.format.proofs.Tests.{bytes-all}
+use Rattle.format.proofs.Pieces.{stored-front, filled-within, filled-front}
 use Rattle.look.specs.View.{isilSeen}
 use Rattle.render.specs.Rendering.{carriedOn}
-use Rattle.tag.proofs.Seen.{held-part, front-part, front-within, set-part, seen-carried, seen-blocks, Slices, slices-elements, slices-valued, seen-whole, seen-valued, seen-least, seen-most, seen-readable}
+use Rattle.tag.proofs.Seen.{seen-carried, seen-blocks, SlicesSeen, viewed-slices, slices-elements, slices-valued, seen-whole, seen-valued, seen-most, seen-readable}
 use Rattle.tag.proofs.Reader.{valued-short, rendered-reads}
 use borrow.Author.Needs.{needs}
 use Rattle.tag.proofs.read_view.Statement.{statement}
 use Rattle.tag.proofs.read_view.Tie as tie
 
+-- where it begins, from where the ISIL has been laid out
+abbrev start : tie.After-isil-of → tie.Start
+start k = k .before .before .before .before .before
+
+-- the ISIL stands at the front of its buffer
+laid : (k : tie.After-isil-of) → let i = isilSeen (start k .args .tag .now) (start k .args .view) in (k .isil-of .result ≡ length i) × (k .isil-of .last .1 .1 .1 .0 ≡ filled i (replicate 16 0))
+laid k = stored-front (replicate 16 0) _ (isilSeen (start k .args .tag .now) (start k .args .view)) _ (k .isil-of .ensures)
+
 isil-of-requires : tie.Need-isil-of-requires
-isil-of-requires c κs =
-    let s = c .before .before .before .before in
-    let v = s .pre .1 in
-    record { basic = seen-least (s .args .tag .now) (s .pre .0); inside = v .isil-inside; short = v .isil-short; fits = v .isil-fits }
+isil-of-requires c κs = c .before .before .before .before .pre .1 .isil-lies
 
 add-item-end : tie.Need-add-item-end
 add-item-end c = search needs
@@ -55,9 +60,8 @@ part-render-start-2 c = search needs
 
 part-render-end-2 : tie.Need-part-render-end-2
 part-render-end-2 c =
-    let s = c .before .before .before .before .before .before .before .before .before .before .before .before .before .before .before .before .before in
-    let i = c .before .before .before .before .before .before .before .before .before .before .before .before .isil-of .ensures in
-    front-within (isilSeen (s .args .tag .now) (s .args .view)) (replicate 16 0) _ _ (i .0) (i .1) (s .pre .1 .isil-fits)
+    let k = c .before .before .before .before .before .before .before .before .before .before .before .before in
+    let l = laid k in filled-within (isilSeen (start k .args .tag .now) (start k .args .view)) (replicate 16 0) _ _ (l .0) (l .1)
 
 slice-aggregate-render : tie.Need-slice-aggregate-render
 slice-aggregate-render c = search needs
@@ -101,47 +105,26 @@ part-render-start-6 c = search needs
 part-render-end-6 : tie.Need-part-render-end-6
 part-render-end-6 c = search needs
 
-tag-bytes : (c : tie.After-render-arg7) → bytes (c .before .before .before .before .before .before .before .before .before .before .before .before .before .before .before .before .before .before .before .before .before .before .before .before .before .args .tag .now) ≡ true
-tag-bytes c = bytes-all (c .before .before .before .before .before .before .before .before .before .before .before .before .before .before .before .before .before .before .before .before .before .before .before .before .before .args .tag .now) (λ i h. omega (arith, c .before .before .before .before .before .before .before .before .before .before .before .before .before .before .before .before .before .before .before .before .before .before .before .before .shared-slice-known .given i))
+tag-bytes : (k : tie.After-isil-of) → bytes (start k .args .tag .now) ≡ true
+tag-bytes k = bytes-all (start k .args .tag .now) (λ i h. omega (arith, k .before .before .before .before .shared-slice-known .given i))
 
--- the seven slices hold the elements
-slices : (c : tie.After-render-arg7)
-    → let a = c .before .before .before .before .before .before .before .before .before .before .before .before .before .before .before .before .before .before .before .before .before .before .before .before .before .args in
-    let t = a .tag .now in
-    let v = a .view in
-    Slices (contentIn t) (take (v .item .at + v .item .len - v .item .at) (drop (v .item .at) t))
-    (take (c .before .before .before .before .before .before .before .before .before .before .before .before .before .before .before .before .before .before .before .before .isil-of .result - 0) (c .before .before .before .before .before .before .before .before .before .before .before .before .before .before .before .before .before .before .before .before .isil-of .last .1 .1 .1 .0))
-    (v .parts ∷ 0 ∷ v .ordinal ∷ 0 ∷ []) (v .usage ∷ [])
-    (take (v .media .at + v .media .len - v .media .at) (drop (v .media .at) t))
-    (take (v .second .at + v .second .len - v .second .at) (drop (v .second .at) t))
-    (take (v .other .at + v .other .len - v .other .at) (drop (v .other .at) t))
-slices c =
-    let s = c .before .before .before .before .before .before .before .before .before .before .before .before .before .before .before .before .before .before .before .before .before .before .before .before .before in
-    let t = s .args .tag .now in
-    let v = s .args .view in
-    let w = s .pre .1 in
-    let i = c .before .before .before .before .before .before .before .before .before .before .before .before .before .before .before .before .before .before .before .before .isil-of .ensures in
-    record {
-      s1 = held-part t (v .item) (el (contentIn t) 1) (w .item);
-      s3 = front-part (isilSeen t v) (replicate 16 0) _ _ (i .0) (i .1) ∙ w .isil;
-      s4 = set-part (v .parts) (v .ordinal) (omega arith) (omega arith) ∙ w .set;
-      s5 = w .usage;
-      s19 = held-part t (v .media) (el (contentIn t) 19) (w .media);
-      s22 = held-part t (v .second) (el (contentIn t) 22) (w .second);
-      s23 = held-part t (v .other) (el (contentIn t) 23) (w .other);
-    }
+slices : (k : tie.After-isil-of) → SlicesSeen (start k .args .tag .now) (start k .args .view) (take (k .isil-of .result - 0) (k .isil-of .last .1 .1 .1 .0))
+slices k =
+    let s = start k in
+    let l = laid k in
+    viewed-slices (s .args .tag .now) (s .args .view) _ (s .pre .1) (filled-front (isilSeen (s .args .tag .now) (s .args .view)) (replicate 16 0) _ _ (l .0) (l .1)) (omega arith) (omega arith)
 
 render-requires : tie.Need-render-requires
 render-requires c κs =
-    let s = c .before .before .before .before .before .before .before .before .before .before .before .before .before .before .before .before .before .before .before .before .before .before .before .before .before in
+    let k = c .before .before .before .before .before .before .before .before .before .before .before .before .before .before .before .before .before .before .before .before in
+    let s = start k in
     let t = s .args .tag .now in
-    let v = s .pre .1 in
-    let h = slices c in (
+    let v = s .pre .1 in (
       seen-readable t (s .pre .0) .blocks,
       seen-most t (s .pre .0),
       v .count ∙ ap length (seen-carried t),
       v .size ∙ ap (λ (bs : List (List ℕ)). length (joined bs)) (seen-carried t),
-      valued-short _ _ _ _ _ _ _ (slices-valued (contentIn t) _ _ _ _ _ _ _ h (seen-valued t (s .pre .0) (tag-bytes c))),
+      valued-short _ _ _ _ _ _ _ (slices-valued (contentIn t) _ _ _ _ _ _ _ (slices k) (seen-valued t (s .pre .0) (tag-bytes k))),
       seen-blocks t (s .args .view) v,
     )
 
@@ -150,10 +133,10 @@ same-length c = search needs
 
 returns : tie.Need-returns
 returns c =
-    let s = c .before .before .before .before .before .before .before .before .before .before .before .before .before .before .before .before .before .before .before .before .before .before .before .before .before .before .before .before in
+    let k = c .before .before .before .before .before .before .before .before .before .before .before .before .before .before .before .before .before .before .before .before .before .before .before in
+    let s = start k in
     let t = s .args .tag .now in
-    let h = slices (c .before .before .before) in
-    let e = slices-elements (contentIn t) _ _ _ _ _ _ _ h (carriedOn t) ∙ seen-whole t in
+    let e = slices-elements (contentIn t) _ _ _ _ _ _ _ (slices k) (carriedOn t) ∙ seen-whole t in
     rendered-reads t (s .args .sheet .now) _ (c .before .before .render .result) _ (s .pre .0) e (c .before .before .render .ensures)
 
 pub read-view-spec : {M : Type 1} → statement M

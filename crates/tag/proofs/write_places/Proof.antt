@@ -1,13 +1,15 @@
 -- `write_places` lends lay the parts of the sheet that the places tell of: they are its elements.
 use mathlib.Core.Path.{_≡_, ap, _∙_}
-use Prim.Native.Nat.{_+_, _-_}
+use Prim.Native.Nat.{_-_}
 use lib.ListN.{length, take, drop}
 use Rattle.format.specs.Bytes.{joined}
 use Rattle.format.specs.Elements.{el}
+use Rattle.format.specs.Slices.{Slices}
 use Rattle.format.specs.Calls.{sheetContent}
 use Rattle.format.proofs.Tests.{and-l}
 use Rattle.tag.specs.Stages.{laidNumber}
-use Rattle.tag.proofs.Seen.{held-part, rest-part, Slices, slices-valued}
+use Rattle.tag.proofs.Seen.{rest-part, slices-valued}
+use Rattle.look.proofs.Holding.{cut, held-cut}
 use Rattle.tag.proofs.Writer.{slices-laying, sheet-elements, laid-refused-writes, laid-done-writes}
 use borrow.Author.Needs.{needs}
 use Rattle.tag.proofs.write_places.Statement.{statement}
@@ -111,19 +113,19 @@ slices : (c : tie.After-lay-arg9)
     → let a = c .before .before .before .before .before .before .before .before .before .before .before .before .before .before .before .before .before .before .before .before .before .before .before .before .before .before .args in
     let s = a .sheet .now in
     let p = a .places in
-    Slices (sheetContent s) (take (p .item .at + p .item .len - p .item .at) (drop (p .item .at) s)) (take (p .isil .at + p .isil .len - p .isil .at) (drop (p .isil .at) s)) (take (p .set .at + p .set .len - p .set .at) (drop (p .set .at) s)) (take (p .usage .at + p .usage .len - p .usage .at) (drop (p .usage .at) s)) (take (p .media .at + p .media .len - p .media .at) (drop (p .media .at) s)) (take (p .second .at + p .second .len - p .second .at) (drop (p .second .at) s)) (take (p .other .at + p .other .len - p .other .at) (drop (p .other .at) s))
+    Slices (sheetContent s) (cut s (p .item .at) (p .item .len)) (cut s (p .isil .at) (p .isil .len)) (cut s (p .set .at) (p .set .len)) (cut s (p .usage .at) (p .usage .len)) (cut s (p .media .at) (p .media .len)) (cut s (p .second .at) (p .second .len)) (cut s (p .other .at) (p .other .len))
 slices c =
     let s = c .before .before .before .before .before .before .before .before .before .before .before .before .before .before .before .before .before .before .before .before .before .before .before .before .before .before .args .sheet .now in
     let p = c .before .before .before .before .before .before .before .before .before .before .before .before .before .before .before .before .before .before .before .before .before .before .before .before .before .before .args .places in
     let w = c .before .before .before .before .before .before .before .before .before .before .before .before .before .before .before .before .before .before .before .before .before .before .before .before .before .before .pre .0 in
     record {
-      s1 = held-part s (p .item) (el (sheetContent s) 1) (w .item);
-      s3 = held-part s (p .isil) (el (sheetContent s) 3) (w .isil);
-      s4 = held-part s (p .set) (el (sheetContent s) 4) (w .set);
-      s5 = held-part s (p .usage) (el (sheetContent s) 5) (w .usage);
-      s19 = held-part s (p .media) (el (sheetContent s) 19) (w .media);
-      s22 = held-part s (p .second) (el (sheetContent s) 22) (w .second);
-      s23 = held-part s (p .other) (el (sheetContent s) 23) (w .other);
+      s1 = held-cut s (p .item) (el (sheetContent s) 1) (w .item);
+      s3 = held-cut s (p .isil) (el (sheetContent s) 3) (w .isil);
+      s4 = held-cut s (p .set) (el (sheetContent s) 4) (w .set);
+      s5 = held-cut s (p .usage) (el (sheetContent s) 5) (w .usage);
+      s19 = held-cut s (p .media) (el (sheetContent s) 19) (w .media);
+      s22 = held-cut s (p .second) (el (sheetContent s) 22) (w .second);
+      s23 = held-cut s (p .other) (el (sheetContent s) 23) (w .other);
     }
 
 row : (c : tie.After-lay-arg9) → let a = c .before .before .before .before .before .before .before .before .before .before .before .before .before .before .before .before .before .before .before .before .before .before .before .before .before .before .args in take (length (a .sheet .now) - a .places .carried) (drop (a .places .carried) (a .sheet .now)) ≡ joined (sheetContent (a .sheet .now) .carried)
