@@ -1,38 +1,37 @@
--- The layout asks of the carried blocks only their bytes in a row.
-use mathlib.Core.Path.{_≡_, refl, ap}
+-- Elements that have one layout: it asks of the carried blocks only their bytes in a row.
+use mathlib.Core.Path.{_≡_, refl, ap, ap₂}
 use Prim.Native.Nat.{ℕ}
-use mathlib.Core.Bool.{_&&_}
+use mathlib.Core.Bool.{Bool, _&&_}
 use mathlib.Core.List.{List, [], _∷_, _++_, append-nil}
 use lib.Dec.{leb}
 use lib.ListN.{length}
-use Rattle.format.specs.Bytes.{pad, joined}
+use Rattle.format.specs.Bytes.{pad, joined, same}
 use Rattle.format.specs.Chain.{blockOne}
 use Rattle.format.specs.Elements.{Content, clash}
 use Rattle.format.specs.Layout.{library, front, basic, laidOut, image, fits}
+use Rattle.format.specs.Calls.{layoutIs}
+
+-- c and d clash alike, and have the same layout on n bytes
+pub record Alike (n : ℕ) (c d : Content) : Type 0 where
+  pub clear : clash c ≡ clash d
+  pub fit : fits n c ≡ fits n d
+  pub images : image n c ≡ image n d
+
+-- so a tag is the layout of both or of neither
+pub own-alike : (t : List ℕ) (c d : Content) → Alike (length t) c d → layoutIs c t ≡ layoutIs d t
+own-alike t c d a = ap₂ (λ (x : Bool) (y : List ℕ). x && same y t) (a .fit) (a .images)
 
 pub joined-one : (s : List ℕ) → joined (s ∷ []) ≡ s
 unfolding joined
 joined-one s = append-nil s
 
-module _ (ss xs bs : List (List ℕ)) (e : joined xs ≡ joined bs) where
-  abbrev a : Content
-  a = record { slots = ss; carried = xs }
-
-  abbrev b : Content
-  b = record { slots = ss; carried = bs }
-
-  laid-joined : (n : ℕ) → laidOut n a ≡ laidOut n b
-  unfolding laidOut basic front library
-  laid-joined n = ap (λ (j : List ℕ). basic n a ++ (blockOne (library n a) ++ j)) e
-
-  pub image-joined : (n : ℕ) → image n a ≡ image n b
-  unfolding image
-  image-joined n = ap (pad n) (laid-joined n)
-
-  pub fits-joined : (n : ℕ) → fits n a ≡ fits n b
-  unfolding fits library
-  fits-joined n = ap (λ (l : List ℕ). leb (length (blockOne (library n a))) 255 && leb (length l) n) (laid-joined n)
-
-  pub clash-joined : clash a ≡ clash b
-  unfolding clash
-  clash-joined = refl
+pub joined-alike : (n : ℕ) (ss xs bs : List (List ℕ)) → joined xs ≡ joined bs → Alike n (record { slots = ss; carried = xs }) (record { slots = ss; carried = bs })
+unfolding clash fits image laidOut basic front library
+joined-alike n ss xs bs e =
+    let a : Content = record { slots = ss; carried = xs } in
+    let laid : laidOut n a ≡ laidOut n (record { slots = ss; carried = bs }) = ap (λ (j : List ℕ). basic n a ++ (blockOne (library n a) ++ j)) e in
+    record {
+      clear = refl;
+      fit = ap (λ (l : List ℕ). leb (length (blockOne (library n a))) 255 && leb (length l) n) laid;
+      images = ap (pad n) laid;
+    }

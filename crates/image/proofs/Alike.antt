@@ -1,36 +1,28 @@
--- Elements that have one layout. The layout takes no more of the carried blocks than their bytes in a row, and no more of an ISIL and an
--- alternative owner than the one of them that is there.
+-- Elements that have one layout: laying one of them down is laying the other down. The layout takes no more of an ISIL and an alternative
+-- owner than the one of them that is there.
 use mathlib.Core.Path.{_≡_, refl, sym, ap, ap₂, _∙_}
 use Prim.Native.Nat.{ℕ}
-use mathlib.Core.Bool.{Bool, true, false, not, _&&_}
+use mathlib.Core.Bool.{true, false, not}
 use mathlib.Core.List.{List, [], _∷_}
 use lib.ListN.{length}
 use Rattle.format.specs.Answers.{Answer, plain, refused, afterwards}
-use Rattle.format.specs.Bytes.{same, joined}
 use Rattle.format.specs.Fields.{isil}
 use Rattle.format.specs.Elements.{Content, numbers, placeIn, place, clash}
 use Rattle.format.specs.Layout.{library, front, basic, laidOut, image, fits}
-use Rattle.format.specs.Calls.{layingSteps, layoutIs}
+use Rattle.format.specs.Calls.{layingSteps}
 use Rattle.format.proofs.Tests.{never}
 use Rattle.format.proofs.Answers.{next-ok, next-no, afterwards-refused}
 use Rattle.format.proofs.Strings.{nil-of}
-use Rattle.format.proofs.Joined.{joined-one, image-joined, fits-joined, clash-joined}
+use Rattle.format.proofs.Joined.{Alike}
 use Rattle.image.specs.declared.Laid.{Laid}
 use Rattle.image.specs.declared.Laid.the-variants.{Refused}
 use Rattle.format.specs.Slices.{elements}
 use Rattle.image.specs.Laying.{laying, Lays, owned}
 
--- c and d clash alike, and have the same layout on n bytes
-pub record Alike (n : ℕ) (c d : Content) : Type 0 where
-  pub clear : clash c ≡ clash d
-  pub fit : fits n c ≡ fits n d
-  pub images : image n c ≡ image n d
-
 pub laying-alike : (locks t : List ℕ) (c d : Content) → Alike (length t) c d → laying locks t c ≡ laying locks t d
 unfolding layingSteps
 laying-alike locks t c d a = rw (a .clear, a .fit, a .images)
 
--- so laying one down is laying the other down
 pub lays-alike : (t locks : List ℕ) (c d : Content) (r : Laid) (tag : List ℕ) → Alike (length t) c d → Lays t locks d r tag → Lays t locks c r tag
 lays-alike t locks c d r tag a h =
     let e = laying-alike locks t c d a in
@@ -38,10 +30,6 @@ lays-alike t locks c d r tag a h =
       answered = h .answered ∙ sym e;
       left = h .left ∙ sym (ap₂ (λ (x : Answer ℕ) (y : List ℕ). afterwards x y t) e (a .images));
     }
-
--- and so is comparing them with a tag
-pub own-alike : (t : List ℕ) (c d : Content) → Alike (length t) c d → layoutIs c t ≡ layoutIs d t
-own-alike t c d a = ap₂ (λ (x : Bool) (y : List ℕ). x && same y t) (a .fit) (a .images)
 
 -- a refusal leaves the tag
 pub lays-refused : (t locks : List ℕ) (c : Content) (k : ℕ) → laying locks t c ≡ refused (plain k) → Lays t locks c (Refused k) t
@@ -56,29 +44,6 @@ unfolding layingSteps
 lays-large t locks c e f = lays-refused t locks c 11 (next-ok 10 _ _ _ (ap not e) ∙ next-no 11 _ _ _ f)
 
 module _ (item isil set usage media second other : List ℕ) where
-  abbrev slots : List (List ℕ)
-  slots = item ∷ isil ∷ set ∷ usage ∷ media ∷ second ∷ other ∷ []
-
-  -- the layout depends on the carried blocks only through their bytes in a row
-  pub joined-alike : (n : ℕ) (bs cs : List (List ℕ)) → joined bs ≡ joined cs
-      → Alike n (elements item isil set usage media second other bs) (elements item isil set usage media second other cs)
-  joined-alike n bs cs e = record { clear = clash-joined slots bs cs e; fit = fits-joined slots bs cs e n; images = image-joined slots bs cs e n }
-
-  -- so they may be taken for one
-  pub row-alike : (n : ℕ) (bs : List (List ℕ)) (carried : List ℕ) → carried ≡ joined bs
-      → Alike n (elements item isil set usage media second other bs) (elements item isil set usage media second other (carried ∷ []))
-  row-alike n bs carried e = joined-alike n bs (carried ∷ []) (sym (joined-one carried ∙ e))
-
-  pub lays-row : (t locks : List ℕ) (bs : List (List ℕ)) (carried : List ℕ) (r : Laid) (tag : List ℕ) → carried ≡ joined bs
-      → Lays t locks (elements item isil set usage media second other (carried ∷ [])) r tag → Lays t locks (elements item isil set usage media second other bs) r tag
-  lays-row t locks bs carried r tag e h =
-      lays-alike t locks (elements item isil set usage media second other bs) (elements item isil set usage media second other (carried ∷ [])) r tag (row-alike (length t) bs carried e) h
-
-  pub own-row : (t : List ℕ) (bs : List (List ℕ)) (carried : List ℕ) → carried ≡ joined bs
-      → layoutIs (elements item isil set usage media second other bs) t ≡ layoutIs (elements item isil set usage media second other (carried ∷ [])) t
-  own-row t bs carried e =
-      own-alike t (elements item isil set usage media second other bs) (elements item isil set usage media second other (carried ∷ [])) (row-alike (length t) bs carried e)
-
   -- where there is no ISIL, the alternative owner is the owner
   pub other-alike : (n : ℕ) (carried : List ℕ) → length isil ≡ 0
       → Alike n (elements item isil set usage media second other (carried ∷ [])) (owned item other set usage media second carried)

@@ -8,18 +8,18 @@ use lib.ListN.{length, set}
 use native.Mathlib.Omega.{arith}
 use borrow.Author.Tests.{eqb-true, leb-true}
 use Rattle.format.specs.Answers.{got, refused, plain, Step, need, inOrder}
-use Rattle.format.specs.Bytes.{if_then_else_, bytes, joined, same, filled}
+use Rattle.format.specs.Bytes.{if_then_else_, bytes, joined, filled}
 use Rattle.format.specs.Pages.{pageSize, goodSize, lockMap, changed}
 use Rattle.format.specs.Elements.{Content, numbers, placeIn, place, el, put, known, value, clash}
 use Rattle.format.specs.Slices.{elements, Slices, Valued}
-use Rattle.format.specs.Layout.{image, fits}
+use Rattle.format.specs.Layout.{image}
 use Rattle.format.specs.Reading.{contentIn, tagSteps}
 use Rattle.format.specs.Calls.{layingSteps, layoutIs, ownLayout, editSteps, Edited, editing}
 use Rattle.format.specs.Numbers.{Edits}
 use Rattle.format.specs.declared.EditAnswer.the-variants as edit
 use Rattle.format.proofs.Tests.{and-l, and-r, eqb-sym}
 use Rattle.format.proofs.Answers.{first-no, next-ok, next-no, next-inv, refused-on, refused-with, passed-on, works, worked, afterwards-got, afterwards-refused}
-use Rattle.format.proofs.Joined.{joined-one, image-joined, fits-joined, clash-joined}
+use Rattle.format.proofs.Joined.{Alike, own-alike, joined-one, joined-alike}
 use Rattle.format.proofs.Readable.{readable-on}
 use Rattle.format.proofs.Slots.{value-of}
 use Rattle.format.proofs.Values.{value-short}
@@ -27,10 +27,11 @@ use Rattle.image.specs.declared.Laid.{Laid}
 use Rattle.image.specs.declared.Laid.the-variants as laid
 use Rattle.look.specs.View.{judged}
 use Rattle.image.specs.Laying.{laidGiven, laying, Lays}
+use Rattle.image.proofs.Alike.{lays-alike}
 use Rattle.tag.specs.Picking.{picked}
 use Rattle.tag.specs.Editing.{Copied, Editable}
 use Rattle.tag.proofs.Seen.{slices-elements, slices-valued, seen-elements, seen-valued, seen-clear, seen-sound, seen-readable}
-use Rattle.tag.proofs.Writer.{laying-joined}
+use Rattle.tag.proofs.Writer.{slices-alike}
 
 -- ---- one element picked
 
@@ -127,20 +128,15 @@ module _ (t locks item isil set usage media second other carried : List ℕ) (h 
   abbrev rowed : Content
   rowed = elements item isil set usage media second other (carried ∷ [])
 
-  rowed-is : rowed ≡ record { slots = c .slots; carried = carried ∷ [] }
-  rowed-is = slices-elements c item isil set usage media second other (h .held) (carried ∷ []) ∙ seen-elements t (carried ∷ [])
-
-  one-row : joined (carried ∷ []) ≡ joined (c .carried)
-  one-row = joined-one carried ∙ h .row
+  rowed-alike : Alike (length t) c rowed
+  rowed-alike = slices-alike (length t) c item isil set usage media second other carried (h .held) (seen-elements t) (h .row)
 
   pub rowed-clear : clash rowed ≡ false
-  rowed-clear = ap clash rowed-is ∙ clash-joined (c .slots) (carried ∷ []) (c .carried) one-row ∙ seen-clear t (h .seen) (h .all-bytes)
+  rowed-clear = sym (rowed-alike .clear) ∙ seen-clear t (h .seen) (h .all-bytes)
 
-  own-row : layoutIs rowed t ≡ ownLayout t
+  own-row : ownLayout t ≡ layoutIs rowed t
   unfolding ownLayout
-  own-row =
-      ap₂ (λ (x : Bool) (i : List ℕ). x && same i t) (ap (fits (length t)) rowed-is ∙ fits-joined (c .slots) (carried ∷ []) (c .carried) one-row (length t))
-      (ap (image (length t)) rowed-is ∙ image-joined (c .slots) (carried ∷ []) (c .carried) one-row (length t))
+  own-row = own-alike t c rowed rowed-alike
 
   module _ (n : ℕ) (s buffer : List ℕ) where
     -- 13, 2 and 9, as the code tests them
@@ -154,43 +150,45 @@ module _ (t locks item isil set usage media second other carried : List ℕ) (h 
     unfolding editing editSteps
     seen-answer =
         next-ok 1 (sized t locks) _ given (h .sized) ∙ readable-on t _ given (seen-readable t (h .seen))
-        ∙ ap (λ (b : Bool). inOrder (need 13 b ∷ need 2 (leb 255 (length buffer)) ∷ need 9 (known n && value n s) ∷ layingSteps pageSize locks t (put c n s)) given) (sym own-row)
+        ∙ ap (λ (b : Bool). inOrder (need 13 b ∷ need 2 (leb 255 (length buffer)) ∷ need 9 (known n && value n s) ∷ layingSteps pageSize locks t (put c n s)) given) own-row
 
     pub late-edits : (k m : ℕ) → inOrder {A = Unit {0}} late tt ≡ refused (plain k) → m ≡ k → Edits t locks n s buffer (edit.Refused m) t buffer
     late-edits k m r e = refused-edits t locks n s buffer k m (seen-answer ∙ refused-on late (layingSteps pageSize locks t (put c n s)) tt given (plain k) r) e
 
+    late-passed : inOrder {A = Unit {0}} late tt ≡ got tt → (leb 255 (length buffer) ≡ true) × (known n && value n s ≡ true)
+    late-passed p =
+        let b = next-inv 2 _ _ tt tt (next-inv 13 _ _ tt tt p .1) in
+        (b .0, next-inv 9 _ _ tt tt (b .1) .0)
+
     pub late-value : inOrder {A = Unit {0}} late tt ≡ got tt → value n s ≡ true
-    late-value p =
-        let a = next-inv 13 _ _ tt tt p in
-        let b = next-inv 2 _ _ tt tt (a .1) in
-        let d = next-inv 9 _ _ tt tt (b .1) in
-        and-r (known n) (value n s) (d .0)
+    late-value p = and-r (known n) (value n s) (late-passed p .1)
 
     -- so the old element has room
     pub late-old : inOrder {A = Unit {0}} late tt ≡ got tt → length (el c n) ≤ length buffer
     late-old p =
-        let a = next-inv 13 _ _ tt tt p in
-        let b = next-inv 2 _ _ tt tt (a .1) in
-        let d = next-inv 9 _ _ tt tt (b .1) in
+        let d = late-passed p in
         omega (
           arith,
-          leb-true 255 (length buffer) (b .0),
-          value-short n (el c n) (value-of c (seen-sound t (h .seen) (h .all-bytes)) n (and-l (known n) (value n s) (d .0))),
+          leb-true 255 (length buffer) (d .0),
+          value-short n (el c n) (value-of c (seen-sound t (h .seen) (h .all-bytes)) n (and-l (known n) (value n s) (d .1))),
         )
 
-    -- laying the picked elements down is laying the edited ones down
     abbrev edited : Content
     edited = elements (picked n 1 s item) (picked n 3 s isil) (picked n 4 s set) (picked n 5 s usage) (picked n 19 s media) (picked n 22 s second) (picked n 23 s other) (carried ∷ [])
 
-    edited-laying : (laying locks t edited ≡ laying locks t (put c n s)) × (image (length t) edited ≡ image (length t) (put c n s))
+    -- laying the picked elements down is laying the edited ones down
+    edited-alike : Alike (length t) (put c n s) edited
     unfolding Puts put
-    edited-laying =
-        let q : edited ≡ put (record { slots = c .slots; carried = carried ∷ [] }) n s =
-        picked-put n s item isil set usage media second other (carried ∷ []) ∙ ap (λ (x : Content). put x n s) rowed-is in
-        let l = laying-joined locks t (put c n s .slots) (carried ∷ []) (c .carried) one-row in
-        (ap (laying locks t) q ∙ l .0, ap (image (length t)) q ∙ l .1)
+    edited-alike =
+        let row : elements item isil set usage media second other (carried ∷ []) ≡ record { slots = c .slots; carried = carried ∷ [] } =
+        slices-elements c item isil set usage media second other (h .held) (carried ∷ []) ∙ seen-elements t (carried ∷ []) in
+        let is : edited ≡ put (record { slots = c .slots; carried = carried ∷ [] }) n s = picked-put n s item isil set usage media second other (carried ∷ []) ∙ ap (λ (x : Content). put x n s) row in
+        subst (Alike (length t) (put c n s)) (sym is) (joined-alike (length t) (put c n s .slots) (c .carried) (carried ∷ []) (sym (joined-one carried ∙ h .row)))
 
     module _ (p : inOrder {A = Unit {0}} late tt ≡ got tt) (l : Laid) (tag : List ℕ) (y : Lays t locks edited l tag) where
+      laid-down : Lays t locks (put c n s) l tag
+      laid-down = lays-alike t locks (put c n s) edited l tag edited-alike y
+
       steps : List Step
       steps = layingSteps pageSize locks t (put c n s)
 
@@ -200,13 +198,13 @@ module _ (t locks item isil set usage media second other carried : List ℕ) (h 
 
       laid-is : laidGiven l ≡ inOrder steps (changed pageSize t (image (length t) (put c n s)))
       unfolding steps
-      laid-is = y .answered ∙ edited-laying .0
+      laid-is = laid-down .answered
 
       pub laid-refused-edits : (k m : ℕ) → l ≡ laid.Refused k → m ≡ k → Edits t locks n s buffer (edit.Refused m) tag buffer
       unfolding steps
       laid-refused-edits k m e q =
           let r : inOrder steps (changed pageSize t (image (length t) (put c n s))) ≡ refused (plain k) = sym laid-is ∙ ap laidGiven e in
-          let kept : tag ≡ t = y .left ∙ afterwards-refused (laying locks t edited) (plain k) _ t (edited-laying .0 ∙ r) in
+          let kept : tag ≡ t = laid-down .left ∙ afterwards-refused (laying locks t (put c n s)) (plain k) _ t r in
           rw kept (refused-edits t locks n s buffer k m (past-late ∙ refused-with steps (changed pageSize t (image (length t) (put c n s))) given (plain k) r) q)
 
       pub laid-done-edits : (k : ℕ) (was : List ℕ) (old : List ℕ) (len : ℕ) → l ≡ laid.Done k → was ≡ el c n → len ≡ length was → old ≡ filled was buffer
@@ -218,7 +216,7 @@ module _ (t locks item isil set usage media second other carried : List ℕ) (h 
           let a : editing pageSize t locks n s buffer .answer ≡ got given = past-late ∙ works steps given (g .0) in
           record {
             answered = ap₂ (λ (x z : ℕ). got (record { pages = x; old = z })) (sym (g .1)) (lw ∙ ap length w) ∙ sym a;
-            left = y .left ∙ afterwards-got (laying locks t edited) k _ t (edited-laying .0 ∙ r) ∙ edited-laying .1 ∙ sym (afterwards-got (editing pageSize t locks n s buffer .answer) given _ t a);
+            left = laid-down .left ∙ afterwards-got (laying locks t (put c n s)) k _ t r ∙ sym (afterwards-got (editing pageSize t locks n s buffer .answer) given _ t a);
             handed = o ∙ ap (λ (x : List ℕ). filled x buffer) w ∙ sym (afterwards-got (editing pageSize t locks n s buffer .answer) given _ buffer a);
           }
 

@@ -1,5 +1,5 @@
 -- Writing: what the stages give is what writing must give.
-use mathlib.Core.Path.{_≡_, refl, sym, ap, ap₂, _∙_}
+use mathlib.Core.Path.{_≡_, refl, sym, ap, _∙_}
 use Prim.Native.Nat.{ℕ}
 use mathlib.Core.Bool.{Bool, true, _&&_}
 use mathlib.Core.List.{List, [], _∷_}
@@ -15,7 +15,7 @@ use Rattle.format.specs.Calls.{layingSteps, sheetContent, writeSteps, writing}
 use Rattle.format.specs.Numbers.{Writes}
 use Rattle.format.specs.declared.WriteAnswer.the-variants as write
 use Rattle.format.proofs.Answers.{first-no, next-ok, refused-on, afterwards-refused}
-use Rattle.format.proofs.Joined.{joined-one, image-joined, fits-joined, clash-joined}
+use Rattle.format.proofs.Joined.{Alike, joined-one, joined-alike}
 use Rattle.sheet.specs.declared.Places.{Places}
 use Rattle.image.specs.declared.Laid.{Laid}
 use Rattle.image.specs.declared.Laid.the-variants as laid
@@ -25,25 +25,13 @@ use Rattle.sheet.proofs.Placed.{scan-good}
 use Rattle.tag.specs.Placed.{Placed}
 use Rattle.image.specs.Laying.{laidGiven, laying, Lays}
 
--- ---- laying elements down: only the joined carried blocks count
-
-pub laying-joined : (locks t : List ℕ) (ss xs bs : List (List ℕ)) → joined xs ≡ joined bs
-    → let a : Content = record { slots = ss; carried = xs } in let b : Content = record { slots = ss; carried = bs } in
-    (laying locks t a ≡ laying locks t b) × (image (length t) a ≡ image (length t) b)
-unfolding layingSteps
-laying-joined locks t ss xs bs e =
-    let i = image-joined ss xs bs e (length t) in
-    (rw (i, fits-joined ss xs bs e (length t), clash-joined ss xs bs e), i)
-
--- the elements of seven slices and a row of carried bytes
-pub slices-laying : (locks t : List ℕ) (c : Content) (item isil set usage media second other carried : List ℕ) → Slices c item isil set usage media second other
+-- seven slices and a row of carried bytes have the layout of the elements that they hold
+pub slices-alike : (n : ℕ) (c : Content) (item isil set usage media second other carried : List ℕ) → Slices c item isil set usage media second other
     → ((bs : List (List ℕ)) → elements (el c 1) (el c 3) (el c 4) (el c 5) (el c 19) (el c 22) (el c 23) bs ≡ record { slots = c .slots; carried = bs }) → carried ≡ joined (c .carried)
-    → let d : Content = elements item isil set usage media second other (carried ∷ []) in (laying locks t d ≡ laying locks t c) × (image (length t) d ≡ image (length t) c)
-slices-laying locks t c item isil set usage media second other carried h eta e =
-    let d : Content = elements item isil set usage media second other (carried ∷ []) in
-    let q : d ≡ record { slots = c .slots; carried = carried ∷ [] } = slices-elements c item isil set usage media second other h (carried ∷ []) ∙ eta (carried ∷ []) in
-    let l = laying-joined locks t (c .slots) (carried ∷ []) (c .carried) (joined-one carried ∙ e) in
-    (ap (laying locks t) q ∙ l .0, ap (image (length t)) q ∙ l .1)
+    → Alike n c (elements item isil set usage media second other (carried ∷ []))
+slices-alike n c item isil set usage media second other carried h eta e =
+    rw (slices-elements c item isil set usage media second other h (carried ∷ []) ∙ eta (carried ∷ []))
+    (joined-alike n (c .slots) (c .carried) (carried ∷ []) (sym (joined-one carried ∙ e)))
 
 -- ---- refusals
 
@@ -73,14 +61,13 @@ module _ (s t locks : List ℕ) where
   unfolding writing writeSteps
   laid-answer z r v = next-ok 1 sized _ _ z ∙ next-ok 8 (rightSheet s) _ _ r ∙ next-ok 9 (goodValues (entriesIn s)) _ _ v
 
-  module _ (z : sized ≡ true) (r : rightSheet s ≡ true) (v : goodValues (entriesIn s) ≡ true) (c : Content) (l : Laid) (tag : List ℕ)
-      (same : (laying locks t c ≡ laying locks t (sheetContent s)) × (image (length t) c ≡ image (length t) (sheetContent s))) (h : Lays t locks c l tag) where
+  module _ (z : sized ≡ true) (r : rightSheet s ≡ true) (v : goodValues (entriesIn s) ≡ true) (l : Laid) (tag : List ℕ) (h : Lays t locks (sheetContent s) l tag) where
     answer : laidGiven l ≡ writing pageSize s t locks .answer
-    answer = h .answered ∙ same .0 ∙ sym (laid-answer z r v)
+    answer = h .answered ∙ sym (laid-answer z r v)
 
     left : tag ≡ writing pageSize s t locks .tag
     unfolding writing
-    left = h .left ∙ ap₂ (λ (m : Answer ℕ) (i : List ℕ). afterwards m i t) (same .0 ∙ sym (laid-answer z r v)) (same .1)
+    left = h .left ∙ ap (λ (m : Answer ℕ). afterwards m (image (length t) (sheetContent s)) t) (sym (laid-answer z r v))
 
     pub laid-refused-writes : (k n : ℕ) → l ≡ laid.Refused k → n ≡ k → Writes s t locks (write.Refused n) tag
     laid-refused-writes k n e q = record { answered = ap (λ (m : ℕ). refused (plain m)) q ∙ sym (ap laidGiven e) ∙ answer; left = left }

@@ -2,7 +2,8 @@
 use mathlib.Core.Path.{sym, _∙_}
 use lib.ListN.{length}
 use Rattle.image.proofs.Placing.{placeable-isil, placeable-other}
-use Rattle.image.proofs.Alike.{own-alike, other-alike, isil-alike}
+use Rattle.format.proofs.Joined.{own-alike}
+use Rattle.image.proofs.Alike.{other-alike, isil-alike}
 use Rattle.image.proofs.is_own.Statement.{statement}
 use Rattle.image.proofs.is_own.Tie as tie
 

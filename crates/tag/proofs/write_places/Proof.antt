@@ -10,7 +10,8 @@ use Rattle.format.proofs.Tests.{and-l}
 use Rattle.tag.specs.Stages.{laidNumber}
 use Rattle.tag.proofs.Seen.{rest-part, slices-valued}
 use Rattle.look.proofs.Holding.{cut, held-cut}
-use Rattle.tag.proofs.Writer.{slices-laying, sheet-elements, laid-refused-writes, laid-done-writes}
+use Rattle.image.proofs.Alike.{lays-alike}
+use Rattle.tag.proofs.Writer.{slices-alike, sheet-elements, laid-refused-writes, laid-done-writes}
 use borrow.Author.Needs.{needs}
 use Rattle.tag.proofs.write_places.Statement.{statement}
 use Rattle.tag.proofs.write_places.Tie as tie
@@ -153,7 +154,7 @@ returns c =
     let a = c .before .before .before .before .before .before .before .before .before .before .before .before .before .before .before .before .before .before .before .before .before .before .before .before .before .before .before .before .before .before .before .before .args in
     let w = c .before .before .before .before .before .before .before .before .before .before .before .before .before .before .before .before .before .before .before .before .before .before .before .before .before .before .before .before .before .before .before .before .pre in
     let told = c .before .enum-told .given .1 in
-    laid-refused-writes (a .sheet .now) (a .tag .now) (a .locks .now) (w .1) (w .0 .right) (w .0 .values) _ _ _ (slices-laying (a .locks .now) (a .tag .now) (sheetContent (a .sheet .now)) _ _ _ _ _ _ _ _ (slices (c .before .before .before .before .before .before)) (sheet-elements (a .sheet .now)) (row (c .before .before .before .before .before .before))) (c .before .before .before .before .before .lay .ensures) _ _ told
+    laid-refused-writes (a .sheet .now) (a .tag .now) (a .locks .now) (w .1) (w .0 .right) (w .0 .values) _ _ (lays-alike (a .tag .now) (a .locks .now) (sheetContent (a .sheet .now)) _ _ _ (slices-alike (length (a .tag .now)) (sheetContent (a .sheet .now)) _ _ _ _ _ _ _ _ (slices (c .before .before .before .before .before .before)) (sheet-elements (a .sheet .now)) (row (c .before .before .before .before .before .before))) (c .before .before .before .before .before .lay .ensures)) _ _ told
     (c .laid-number .ensures ∙ ap laidNumber told)
 
 same-length-2 : tie.Need-same-length-2
@@ -163,7 +164,7 @@ returns-2 : tie.Need-returns-2
 returns-2 c =
     let a = c .before .before .before .before .before .before .before .before .before .before .before .before .before .before .before .before .before .before .before .before .before .before .before .before .before .before .before .before .before .before .before .before .args in
     let w = c .before .before .before .before .before .before .before .before .before .before .before .before .before .before .before .before .before .before .before .before .before .before .before .before .before .before .before .before .before .before .before .before .pre in
-    laid-done-writes (a .sheet .now) (a .tag .now) (a .locks .now) (w .1) (w .0 .right) (w .0 .values) _ _ _ (slices-laying (a .locks .now) (a .tag .now) (sheetContent (a .sheet .now)) _ _ _ _ _ _ _ _ (slices (c .before .before .before .before .before .before)) (sheet-elements (a .sheet .now)) (row (c .before .before .before .before .before .before))) (c .before .before .before .before .before .lay .ensures) _ (c .before .laid .given .1)
+    laid-done-writes (a .sheet .now) (a .tag .now) (a .locks .now) (w .1) (w .0 .right) (w .0 .values) _ _ (lays-alike (a .tag .now) (a .locks .now) (sheetContent (a .sheet .now)) _ _ _ (slices-alike (length (a .tag .now)) (sheetContent (a .sheet .now)) _ _ _ _ _ _ _ _ (slices (c .before .before .before .before .before .before)) (sheet-elements (a .sheet .now)) (row (c .before .before .before .before .before .before))) (c .before .before .before .before .before .lay .ensures)) _ (c .before .laid .given .1)
 
 pub write-places-spec : {M : Type 1} → statement M
 write-places-spec =
