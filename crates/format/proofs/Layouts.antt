@@ -24,7 +24,7 @@ use Rattle.format.proofs.Strings.{nil-of, le16-length, length-pad}
 use Rattle.format.proofs.Blocks.{chain-laid, library-back, library-good}
 use Rattle.format.proofs.Fields.{text-solid, item-back, spoken, owner-back}
 use Rattle.format.proofs.Slots.{Facts, sound-facts}
-use Rattle.format.proofs.Values.{value-text, value-isil, value-alternative, value-usage, value-media, value-set, item-content, item-agrees, owner-content, owner-either, Placed, owner-placed, usage-content, usage-agrees}
+use Rattle.format.proofs.Values.{value-text, value-isil, value-alternative, value-usage, value-media, value-set, item-content, item-agrees, owner-content, owner-either, OwnerPlaced, owner-placed, usage-content, usage-agrees}
 
 -- ---- a tag that is laid down part by part, cut as the reader cuts it
 
@@ -155,7 +155,7 @@ module _ (n : ℕ) (c : Content) where
 -- ---- the elements come back from their fields
 
 module _ (n : ℕ) (c : Content) (k : Facts c) where
-  owners : Placed (ownerWidth n) (ownerOf c) (library n c .owner)
+  owners : OwnerPlaced (ownerWidth n) (ownerOf c) (library n c .owner)
   unfolding library
   owners = owner-placed (ownerWidth n) (ownerOf c) (owner-either (el c 3) (el c 23) (value-isil (el c 3) (k .values .v3)) (value-alternative (el c 23) (k .values .v23)) (k .owners))
 

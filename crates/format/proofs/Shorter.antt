@@ -277,10 +277,6 @@ pub blocks-total : (t : List ℕ) → Readable t → length (joined (blocksIn t)
 unfolding chain
 blocks-total t r = omega (arith, walk-total (length (drop 34 t)) false (drop 34 t) (blocksIn t) (r .blocks), length-drop 34 t)
 
--- so have the carried ones
-pub carried-short : (t : List ℕ) → Readable t → length (joined (otherBlocks (blocksIn t))) ≤ length t - 34
-carried-short t r = omega (arith, others-le (blocksIn t), blocks-total t r)
-
 -- ---- the layout of what was read
 
 module _ (p : ℕ) (t : List ℕ) (y : bytes t ≡ true) (g : goodSize p (length t) ≡ true) (r : Readable t) where

@@ -166,13 +166,13 @@ module _ (s r : List ℕ) (is : (s ≡ []) ⊎ (isil s ≡ true)) (ir : (r ≡ [
   ]
 
 -- the owner in block 1, and with what the owner field says
-pub record Placed (w : ℕ) (o fo : List ℕ) : Type 0 where
+pub record OwnerPlaced (w : ℕ) (o fo : List ℕ) : Type 0 where
   pub good : isEmpty fo || isOwner fo ≡ true
   pub solid-all : solid fo ≡ true
   pub agrees : Bool·beq (marked (spoken w o)) (not (isEmpty fo)) ≡ true
   pub back : (if isEmpty fo then spoken w o else fo) ≡ o
 
-pub owner-placed : (w : ℕ) (o : List ℕ) → (o ≡ []) ⊎ (isOwner o ≡ true) → Placed w o (if isEmpty o || basicOwner w o then [] else o)
+pub owner-placed : (w : ℕ) (o : List ℕ) → (o ≡ []) ⊎ (isOwner o ≡ true) → OwnerPlaced w o (if isEmpty o || basicOwner w o then [] else o)
 unfolding spoken same all
 owner-placed w [] e = record { good = refl; solid-all = refl; agrees = refl; back = refl }
 owner-placed w (x ∷ s) (inl e) = never (cc)
@@ -181,7 +181,7 @@ owner-placed w (x ∷ s) (inr e) = go (basicOwner w (x ∷ s)) refl
     o : List ℕ
     o = x ∷ s
 
-    go : (t : Bool) → basicOwner w o ≡ t → Placed w o (if t then [] else o)
+    go : (t : Bool) → basicOwner w o ≡ t → OwnerPlaced w o (if t then [] else o)
     go true h = let f = owner-facts o e in record { good = refl; solid-all = refl; agrees = rw h (rw (f .unmarked)); back = rw h }
     go false h = record { good = e; solid-all = owner-facts o e .solid-all; agrees = rw h; back = refl }
 

@@ -10,19 +10,18 @@ use lib.Seq.{drop-drop, take-append-seam, drop-append-seam}
 use borrow.Author.Tests.{eqb-false, eq-eqb, ltb-true, ltb-false, leb-true, le-leb, ne-eqb}
 use Rattle.format.specs.Answers.{got}
 use Rattle.format.specs.Bytes.{if_then_else_, isEmpty, all, part, joined}
-use Rattle.format.specs.Elements.{numbers, form, placeIn, place, el}
+use Rattle.format.specs.Elements.{numbers, placeIn, place}
 use Rattle.format.specs.Sheet.{Entry, bodies, entriesIn, rightSheet, find, carriedIn, contentOf, formed, goodValues}
-use Rattle.format.specs.Slices.{elements, Valued, Held}
-use Rattle.format.specs.Calls.{sheetContent}
+use Rattle.format.specs.Slices.{Held}
 use Rattle.format.proofs.Tests.{and-l, and-r, and-i, all-mono}
 use Rattle.format.proofs.Answers.{next-inv, none-inv}
 use Rattle.format.proofs.Sheets.{body-is, sheet-right}
 use Rattle.format.proofs.Slots.{values-valued}
-use Rattle.format.proofs.Entries.{values-parts, find-values, carried-forms}
+use Rattle.format.proofs.Entries.{values-parts, find-values}
 use Rattle.elements.proofs.Numbers.{form-byte}
 use Rattle.sheet.specs.declared.Places.{Places}
 use Rattle.sheet.specs.Heads.{least}
-use Rattle.sheet.specs.Scanning.{bodyIn, startOf, placeOf, placesIn, scanning}
+use Rattle.sheet.specs.Scanning.{bodyIn, startOf, placeOf, placesIn, scanning, Placed}
 use Rattle.sheet.proofs.Heads.{rises, byteNumbers, rising-rises, right-body}
 use Rattle.sheet.proofs.Walking.{find-above, least-above}
 
@@ -100,27 +99,6 @@ module _ (s : List ℕ) where
 numbers-fit : (es : List Entry) → all formed es ≡ true → byteNumbers es ≡ true
 numbers-fit es f = all-mono formed (λ (e : Entry). leb (e .number) 255) (λ e h. le-leb (e .number) 255 (form-byte (e .number) (e .bytes) h)) es f
 
--- element n of the sheet s
-abbrev pub elOf : List ℕ → ℕ → List ℕ
-elOf s n = el (sheetContent s) n
-
--- what a scan that gave p tells of the sheet s
-pub record GoodSheet (s : List ℕ) (p : Places) : Type 0 where
-  pub right : rightSheet s ≡ true
-  pub good : goodValues (entriesIn s) ≡ true
-  pub content : elements (elOf s 1) (elOf s 3) (elOf s 4) (elOf s 5) (elOf s 19) (elOf s 22) (elOf s 23) (sheetContent s .carried) ≡ sheetContent s
-  pub values : Valued (elOf s 1) (elOf s 3) (elOf s 4) (elOf s 5) (elOf s 19) (elOf s 22) (elOf s 23)
-  pub blocks : all (form 255) (sheetContent s .carried) ≡ true
-  pub item : Held s (p .item) (elOf s 1)
-  pub isil : Held s (p .isil) (elOf s 3)
-  pub set : Held s (p .set) (elOf s 4)
-  pub usage : Held s (p .usage) (elOf s 5)
-  pub media : Held s (p .media) (elOf s 19)
-  pub second : Held s (p .second) (elOf s 22)
-  pub other : Held s (p .other) (elOf s 23)
-  pub carried-is : drop (p .carried) s ≡ joined (sheetContent s .carried)
-  pub carried-inside : p .carried ≤ length s
-
 module _ (s : List ℕ) (right : rightSheet s ≡ true) (good : goodValues (entriesIn s) ≡ true) where
   fits : byteNumbers (entriesIn s) ≡ true
   fits = numbers-fit (entriesIn s) (values-parts (entriesIn s) good .0)
@@ -144,16 +122,13 @@ module _ (s : List ℕ) (right : rightSheet s ≡ true) (good : goodValues (entr
       go [] e h = record { inside = omega arith; is = refl }
       go (x ∷ b) e h = record { inside = h; is = e }
 
-  pub good-sheet : GoodSheet s (placesIn s)
+  good-sheet : Placed s (placesIn s)
   unfolding placesIn numbers place placeIn contentOf
   good-sheet =
       let parts = values-parts (entriesIn s) good in
       record {
         right = right;
-        good = good;
-        content = refl;
-        values = values-valued _ (find-values numbers (entriesIn s) (parts .0) (parts .1));
-        blocks = carried-forms (entriesIn s) (parts .0);
+        values = good;
         item = found 1;
         isil = found 3;
         set = found 4;
@@ -161,13 +136,14 @@ module _ (s : List ℕ) (right : rightSheet s ≡ true) (good : goodValues (entr
         media = found 19;
         second = found 22;
         other = found 23;
-        carried-is = carried-stand s 0 (bodyIn s) (entriesIn s) (body-is s (sheet-right s right .sheet)) order fits;
+        valued = values-valued _ (find-values numbers (entriesIn s) (parts .0) (parts .1));
         carried-inside = omega (arith, stands s 255 0 (bodyIn s) (entriesIn s) (body-is s (sheet-right s right .sheet)) order .inside, right-body s right);
+        carried = carried-stand s 0 (bodyIn s) (entriesIn s) (body-is s (sheet-right s right .sheet)) order fits;
       }
 
 -- ---- what a caller of the scan cites
 
-pub scan-good : (s : List ℕ) (p : Places) → scanning s ≡ got p → GoodSheet s p
+pub scan-good : (s : List ℕ) (p : Places) → scanning s ≡ got p → Placed s p
 unfolding scanning
 scan-good s p e =
     let a = next-inv 8 (rightSheet s) _ (placesIn s) p e in

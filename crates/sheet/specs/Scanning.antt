@@ -1,11 +1,16 @@
 -- Where the elements stand in a sheet, and what judging one answers: document 01, "The sheet", with its refusals 8 and 9 in order.
-use Prim.Native.Nat.{ℕ, _+_}
+use mathlib.Core.Path.{_≡_}
+use Prim.Native.Nat.{ℕ, _+_, _≤_}
+use mathlib.Core.Bool.{true}
 use mathlib.Core.List.{List, [], _∷_}
-use lib.ListN.{length}
+use lib.ListN.{length, drop}
 use lib.Dec.{ltb}
 use Rattle.format.specs.Answers.{Answer, plain, got, refused, need, inOrder}
-use Rattle.format.specs.Bytes.{if_then_else_, isEmpty}
+use Rattle.format.specs.Bytes.{if_then_else_, isEmpty, joined}
+use Rattle.format.specs.Elements.{el}
 use Rattle.format.specs.Sheet.{Entry, bodyAt, countIn, entriesIn, rightSheet, find, goodValues}
+use Rattle.format.specs.Slices.{Held, Valued}
+use Rattle.format.specs.Calls.{sheetContent}
 use Rattle.format.specs.declared.Part.{Part}
 use Rattle.sheet.specs.declared.Places.{Places}
 use Rattle.sheet.specs.declared.Scanned.{Scanned}
@@ -52,3 +57,18 @@ scanning s =
 abbrev pub scanGiven : Scanned → Answer Places
 scanGiven (Good p) = got p
 scanGiven (Refused n) = refused (plain n)
+
+-- the sheet is right, its values are good, and the places tell where its elements stand
+pub record Placed (s : List ℕ) (p : Places) : Type 0 where
+  pub right : rightSheet s ≡ true
+  pub values : goodValues (entriesIn s) ≡ true
+  pub item : Held s (p .item) (el (sheetContent s) 1)
+  pub isil : Held s (p .isil) (el (sheetContent s) 3)
+  pub set : Held s (p .set) (el (sheetContent s) 4)
+  pub usage : Held s (p .usage) (el (sheetContent s) 5)
+  pub media : Held s (p .media) (el (sheetContent s) 19)
+  pub second : Held s (p .second) (el (sheetContent s) 22)
+  pub other : Held s (p .other) (el (sheetContent s) 23)
+  pub valued : Valued (el (sheetContent s) 1) (el (sheetContent s) 3) (el (sheetContent s) 4) (el (sheetContent s) 5) (el (sheetContent s) 19) (el (sheetContent s) 22) (el (sheetContent s) 23)
+  pub carried-inside : p .carried ≤ length s
+  pub carried : drop (p .carried) s ≡ joined (sheetContent s .carried)

@@ -4,7 +4,7 @@ use Prim.Native.Nat.{ℕ}
 use mathlib.Core.Bool.{Bool, true, _&&_}
 use mathlib.Core.List.{List, [], _∷_}
 use lib.ListN.{length}
-use Rattle.format.specs.Answers.{Answer, got, refused, plain, need, afterwards}
+use Rattle.format.specs.Answers.{Answer, refused, plain, need, afterwards}
 use Rattle.format.specs.Bytes.{joined}
 use Rattle.format.specs.Pages.{pageSize, goodSize, lockMap}
 use Rattle.format.specs.Elements.{Content, numbers, place, placeIn, el}
@@ -16,13 +16,10 @@ use Rattle.format.specs.Numbers.{Writes}
 use Rattle.format.specs.declared.WriteAnswer.the-variants as write
 use Rattle.format.proofs.Answers.{first-no, next-ok, refused-on, afterwards-refused}
 use Rattle.format.proofs.Joined.{Alike, joined-one, joined-alike}
-use Rattle.sheet.specs.declared.Places.{Places}
 use Rattle.image.specs.declared.Laid.{Laid}
 use Rattle.image.specs.declared.Laid.the-variants as laid
 use Rattle.tag.proofs.Seen.{slices-elements}
 use Rattle.sheet.specs.Scanning.{scanning}
-use Rattle.sheet.proofs.Placed.{scan-good}
-use Rattle.tag.specs.Placed.{Placed}
 use Rattle.image.specs.Laying.{laidGiven, laying, Lays}
 
 -- seven slices and a row of carried bytes have the layout of the elements that they hold
@@ -81,22 +78,3 @@ pub sheet-elements : (s : List ℕ) (bs : List (List ℕ))
     ≡ record { slots = sheetContent s .slots; carried = bs }
 unfolding contentOf numbers place placeIn
 sheet-elements s bs = refl
-
--- a judged sheet
-pub scan-placed : (s : List ℕ) (p : Places) → scanning s ≡ got p → Placed s p
-scan-placed s p e =
-    let g = scan-good s p e in
-    record {
-      right = g .right;
-      values = g .good;
-      item = g .item;
-      isil = g .isil;
-      set = g .set;
-      usage = g .usage;
-      media = g .media;
-      second = g .second;
-      other = g .other;
-      valued = g .values;
-      carried-inside = g .carried-inside;
-      carried = g .carried-is;
-    }

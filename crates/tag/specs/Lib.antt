@@ -1,4 +1,3 @@
 pub mod Stages
-pub mod Placed
 pub mod Picking
 pub mod Editing

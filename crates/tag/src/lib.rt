@@ -23,7 +23,7 @@ ghost use Rattle.image.specs.Laying.{RightCheck};
 ghost use Rattle.look.specs.View.{Viewed, judged};
 ghost use Rattle.tag.specs.Stages.{stageGiven, stageNumber, scanNumber, laidNumber};
 ghost use Rattle.tag.specs.Picking.{picked};
-ghost use Rattle.tag.specs.Placed.{Placed};
+ghost use Rattle.sheet.specs.Scanning.{Placed};
 ghost use Rattle.tag.specs.Editing.{Copied, Editable};
 
 // A stage of a call: passed, or the number of its refusal.

@@ -6,7 +6,8 @@ use Rattle.format.specs.Pages.{pageSize, goodSize, lockMap}
 use Rattle.format.proofs.Answers.{need-inv}
 use Rattle.tag.specs.Stages.{stageGiven, stageNumber, scanNumber}
 use Rattle.sheet.specs.Scanning.{scanGiven}
-use Rattle.tag.proofs.Writer.{size-writes, scan-writes, scan-placed}
+use Rattle.tag.proofs.Writer.{size-writes, scan-writes}
+use Rattle.sheet.proofs.Placed.{scan-good}
 use borrow.Author.Needs.{needs}
 use Rattle.tag.proofs.write.Statement.{statement}
 use Rattle.tag.proofs.write.Tie as tie
@@ -54,7 +55,7 @@ write-places-requires c κs =
     let a = c .before .before .before .before .before .before .before .before .before .before .before .args in
     let z = need-inv 1 (goodSize pageSize (length (a .tag .now)) && lockMap pageSize (a .locks .now) (length (a .tag .now))) tt
     (sym (c .before .before .before .before .before .before .before .size-stage .ensures) ∙ ap stageGiven (c .before .before .before .before .before .enum-told .given .1)) in
-    (scan-placed (a .sheet .now) _ (sym (c .before .before .before .before .scan .ensures) ∙ ap scanGiven (c .before .before .scanned .given .1)), z)
+    (scan-good (a .sheet .now) _ (sym (c .before .before .before .before .scan .ensures) ∙ ap scanGiven (c .before .before .scanned .given .1)), z)
 
 same-length : tie.Need-same-length
 same-length c = search needs
