@@ -8,11 +8,10 @@ use lib.ListN.{length}
 use Rattle.format.specs.Answers.{Answer, plain, refused, afterwards}
 use Rattle.format.specs.Fields.{isil}
 use Rattle.format.specs.Elements.{Content, numbers, placeIn, place, clash}
-use Rattle.format.specs.Layout.{library, front, basic, laidOut, image, fits}
+use Rattle.format.specs.Layout.{ownerOf, library, front, basic, laidOut, image, fits}
 use Rattle.format.specs.Calls.{layingSteps}
 use Rattle.format.proofs.Tests.{never}
 use Rattle.format.proofs.Answers.{next-ok, next-no, afterwards-refused}
-use Rattle.format.proofs.Strings.{nil-of}
 use Rattle.format.proofs.Joined.{Alike}
 use Rattle.image.specs.declared.Laid.{Laid}
 use Rattle.image.specs.declared.Laid.the-variants.{Refused}
@@ -44,22 +43,17 @@ unfolding layingSteps
 lays-large t locks c e f = lays-refused t locks c 11 (next-ok 10 _ _ _ (ap not e) ∙ next-no 11 _ _ _ f)
 
 module _ (item isil set usage media second other : List ℕ) where
-  -- where there is no ISIL, the alternative owner is the owner
-  pub other-alike : (n : ℕ) (carried : List ℕ) → length isil ≡ 0
-      → Alike n (elements item isil set usage media second other (carried ∷ [])) (owned item other set usage media second carried)
-  other-alike n carried e = rw (nil-of isil e) (record { clear = refl; fit = refl; images = refl })
-
-  -- where there is an ISIL and the elements do not clash, it is the owner
-  pub isil-alike : (n : ℕ) (carried : List ℕ) → (length isil ≡ 0 → ⊥) → clash (elements item isil set usage media second other (carried ∷ [])) ≡ false
-      → Alike n (elements item isil set usage media second other (carried ∷ [])) (owned item isil set usage media second carried)
+  -- where the elements do not clash, the layout takes no more of the ISIL and the alternative owner than the owner
+  pub owner-alike : (n : ℕ) (carried owner : List ℕ) → owner ≡ ownerOf (elements [] isil [] [] [] [] other []) → clash (elements item isil set usage media second other (carried ∷ [])) ≡ false
+      → Alike n (elements item isil set usage media second other (carried ∷ [])) (owned item owner set usage media second carried)
   unfolding clash fits image laidOut library basic front place placeIn numbers
-  isil-alike n carried some clear = go isil other some clear
+  owner-alike n carried owner is clear = rw is (go isil other clear)
     where
-      go : (s o : List ℕ) → (length s ≡ 0 → ⊥) → clash (elements item s set usage media second o (carried ∷ [])) ≡ false
-          → Alike n (elements item s set usage media second o (carried ∷ [])) (owned item s set usage media second carried)
-      go [] o k e = absurd (k refl)
-      go (x ∷ s) [] k e = record { clear = refl; fit = refl; images = refl }
-      go (x ∷ s) (y ∷ o) k e = never (cc)
+      go : (s o : List ℕ) → clash (elements item s set usage media second o (carried ∷ [])) ≡ false
+          → Alike n (elements item s set usage media second o (carried ∷ [])) (owned item (ownerOf (elements [] s [] [] [] [] o [])) set usage media second carried)
+      go [] o e = record { clear = refl; fit = refl; images = refl }
+      go (x ∷ s) [] e = record { clear = refl; fit = refl; images = refl }
+      go (x ∷ s) (y ∷ o) e = never (cc)
 
 -- it asks no more than these four
 pub clash-four : (item isil set usage media second other : List ℕ) (bs : List (List ℕ))

@@ -14,7 +14,7 @@ use Rattle.format.specs.Pages.{pageSize, goodSize}
 use Rattle.format.specs.Fields.{isil, isOwner, long, basicOwner}
 use Rattle.format.specs.Chain.{Library, blockOne}
 use Rattle.format.specs.Elements.{Content, numbers, placeIn, place, shape, setInfo, value, clash}
-use Rattle.format.specs.Layout.{ownerWidth, library, front, basic, laidOut, fits}
+use Rattle.format.specs.Layout.{ownerWidth, ownerOf, library, front, basic, laidOut, fits}
 use Rattle.format.proofs.Tests.{and-l}
 use Rattle.format.proofs.Fields.{isil-first, alternative-facts}
 use Rattle.format.proofs.Values.{required-shape, value-short, value-text, value-isil, value-alternative, value-usage}
@@ -116,6 +116,11 @@ behind-name n item owner name g e = rw e (go (isEmpty owner || basicOwner (owner
 
 -- ---- what the layout relies on
 
+-- the owner, by what the test for an ISIL came to
+pub owner-by : (isil other : List ℕ) (t : Bool) → eqb (length isil) 0 ≡ t → (if t then other else isil) ≡ ownerOf (elements [] isil [] [] [] [] other [])
+unfolding place placeIn numbers
+owner-by isil other t e = ap (λ (b : Bool). if b then other else isil) (sym (empty-length isil ∙ e))
+
 isil-owner : (s : List ℕ) → value 3 s ≡ true → OwnerOrNone s
 unfolding isOwner
 isil-owner s v = elim (value-isil s v) [ inl e ↦ inl e | inr e ↦ inr (rw (isil-first s e .0) e) ]
@@ -138,11 +143,14 @@ module _ (item isil set usage media second other : List ℕ) (v : Valued item is
     usage-long = ap length (value-usage usage (v .v5));
   }
 
-  pub placeable-isil : Placeable item isil set usage second
-  placeable-isil = placeable isil (isil-owner isil (v .v3)) (value-short 3 isil (v .v3))
-
-  pub placeable-other : Placeable item other set usage second
-  placeable-other = placeable other (other-owner other (v .v23)) (value-short 23 other (v .v23))
+  -- the owner is the ISIL or the alternative owner
+  pub placeable-owner : (owner : List ℕ) → owner ≡ ownerOf (elements [] isil [] [] [] [] other []) → Placeable item owner set usage second
+  unfolding place placeIn numbers
+  placeable-owner owner is = rw is (go (isEmpty isil))
+    where
+      go : (t : Bool) → Placeable item (if t then other else isil) set usage second
+      go true = placeable other (other-owner other (v .v23)) (value-short 23 other (v .v23))
+      go false = placeable isil (isil-owner isil (v .v3)) (value-short 3 isil (v .v3))
 
 -- ---- sizes
 

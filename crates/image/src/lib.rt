@@ -10,7 +10,7 @@ ghost use Rattle.format.specs.Pages.{pageSize, goodSize};
 ghost use Rattle.format.specs.Fields.{packed, basicOwner, ownerField};
 ghost use Rattle.format.specs.Chain.{libraryBytes, blockOne};
 ghost use Rattle.format.specs.Elements.{clash};
-ghost use Rattle.format.specs.Layout.{ownerWidth, image, fits};
+ghost use Rattle.format.specs.Layout.{ownerWidth, ownerOf, image, fits};
 ghost use Rattle.format.specs.Calls.{layoutIs};
 ghost use Rattle.format.specs.Slices.{elements, Valued};
 ghost use Rattle.image.specs.Laying.{Lays, owned, frontOf, basicOf, libraryOf, ownerBehind, usageBehind, fieldsOf, OwnerOrNone, Behind, Placeable, IsilFits, FieldsFit, BlockFits, LibraryFits, Buildable, Blank, laidAt, withCheck, checked, RightCheck};
@@ -482,6 +482,16 @@ fn lay_with(
     )
 }
 
+// The owner: the ISIL, or the alternative owner where there is none.
+fn owner_of<'a>(isil: &'a [u8], other: &'a [u8]) -> &'a [u8]
+    ensures { λ r. ⌜ now r ≡ ownerOf (elements [] (now (isil .entry)) [] [] [] [] (now (other .entry)) []) ⌝ }
+{
+    if isil.len() == 0 {
+        return other;
+    }
+    isil
+}
+
 // Is the elements' layout just what the tag, whose CRC is right, holds.
 pub fn is_own(
     item: &[u8],
@@ -506,14 +516,14 @@ pub fn is_own(
 
 // Lays the elements down on the tag: 10 where two clash, 11 where there is no layout, 12 where a locked page would get other bytes; a
 // refusal changes nothing. Else the tag becomes their layout, and the answer is the count of pages changed.
-pub fn lay(
+pub fn lay<'a>(
     item: &[u8],
-    isil: &[u8],
+    isil: &'a [u8],
     set: &[u8],
     usage: &[u8],
     media: &[u8],
     second: &[u8],
-    other: &[u8],
+    other: &'a [u8],
     carried: &[u8],
     tag: &mut [u8],
     locks: &[u8],
@@ -524,8 +534,15 @@ pub fn lay(
     if clashing(item, isil, second, other) {
         return Laid::Refused(10);
     }
-    if isil.len() == 0 {
-        return lay_with(item, other, set, usage, media, second, carried, tag, locks);
-    }
-    lay_with(item, isil, set, usage, media, second, carried, tag, locks)
+    lay_with(
+        item,
+        owner_of(isil, other),
+        set,
+        usage,
+        media,
+        second,
+        carried,
+        tag,
+        locks,
+    )
 }
