@@ -35,6 +35,17 @@ module _ (n m : ℕ) (h : n ≤ m) where
   pub lent-blank : Blank 0 lent
   lent-blank = let e : n ≡ length lent - 0 = omega (arith, lent-length) in lent-zeros ∙ ap (λ (k : ℕ). zeros k) e
 
+  -- and where they come back as d, lending them again lends d
+  module _ (d : List ℕ) (e : length d ≡ length lent) where
+    pub back-room : n ≤ length (d ++ drop (n - 0) (zeros m))
+    back-room = omega (arith, lent-length, length-append d (drop (n - 0) (zeros m)))
+
+    pub back-same : take (n - 0) (d ++ drop (n - 0) (zeros m)) ≡ d
+    back-same = take-at d (drop (n - 0) (zeros m)) (n - 0) (omega (arith, lent-length))
+
+    pub back-length : length (take (n - 0) (d ++ drop (n - 0) (zeros m))) ≡ n
+    back-length = ap length back-same ∙ e ∙ lent-length
+
 -- ---- filled up with 00
 
 pad-full : (n : ℕ) (s : List ℕ) → length s ≡ n → pad n s ≡ s

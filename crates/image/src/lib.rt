@@ -13,7 +13,8 @@ ghost use Rattle.format.specs.Elements.{clash};
 ghost use Rattle.format.specs.Layout.{ownerWidth, ownerOf, image, fits};
 ghost use Rattle.format.specs.Calls.{layoutIs};
 ghost use Rattle.format.specs.Slices.{elements, Valued};
-ghost use Rattle.image.specs.Laying.{Lays, owned, frontOf, basicOf, libraryOf, ownerBehind, usageBehind, fieldsOf, OwnerOrNone, Behind, Placeable, IsilFits, FieldsFit, BlockFits, LibraryFits, Buildable, Blank, laidAt, withCheck, checked, RightCheck};
+ghost use Rattle.pages.specs.Storing.{storing};
+ghost use Rattle.image.specs.Laying.{laidGiven, Lays, owned, frontOf, basicOf, libraryOf, ownerBehind, usageBehind, fieldsOf, OwnerOrNone, Behind, Placeable, IsilFits, FieldsFit, BlockFits, LibraryFits, Buildable, Blank, laidAt, withCheck, checked, RightCheck};
 
 // Laying elements down on a tag: the count of pages changed, or the number of the refusal.
 pub enum Laid {
@@ -361,23 +362,12 @@ fn same_layout(
     pages::same(draft, tag)
 }
 
-// Puts the layout on a draft of 00 and stores it on the tag: 12 where a locked page would get other bytes.
-fn store_layout(
-    draft: &mut [u8],
-    item: &[u8],
-    owner: &[u8],
-    set: &[u8],
-    usage: &[u8],
-    media: &[u8],
-    second: &[u8],
-    carried: &[u8],
-    tag: &mut [u8],
-    locks: &[u8],
-) -> Laid
-    requires { ⌜ (goodSize pageSize (length (now tag)) ≡ true) × (length (now draft) ≡ length (now tag)) × Buildable (now draft) (now item) (now owner) (now set) (now usage) (now media) (now second) (now carried) × (clash (owned (now item) (now owner) (now set) (now usage) (now media) (now second) (now carried)) ≡ false) ⌝ }
-    ensures { λ r. ⌜ Lays (now (tag .entry)) (now (locks .entry)) (owned (now (item .entry)) (now (owner .entry)) (now (set .entry)) (now (usage .entry)) (now (media .entry)) (now (second .entry)) (now (carried .entry))) r (now (tag .exit)) ⌝ }
+// Puts the CRC in its place and stores the draft on the tag: 12 where a locked page would get other bytes.
+fn store_draft(draft: &mut [u8], tag: &mut [u8], locks: &[u8]) -> Laid
+    requires { ⌜ 21 ≤ length (now draft) ⌝ }
+    ensures { λ r. ⌜ (laidGiven r ≡ storing pageSize (checked (now (draft .entry))) (now (tag .entry)) (now (locks .entry)) .answer)
+        × (now (tag .exit) ≡ storing pageSize (checked (now (draft .entry))) (now (tag .entry)) (now (locks .entry)) .tag) ⌝ }
 {
-    put_layout(draft, item, owner, set, usage, media, second, carried);
     seal(draft);
     match pages::store(draft, tag, locks) {
         Stored::Done(n) => Laid::Done(n),
@@ -453,9 +443,9 @@ fn lay_with(
     }
     // a short draft for a short tag, as in is_own_with
     if n <= 256 {
-        let mut draft = [0u8; 256];
-        return store_layout(
-            &mut draft[0..n],
+        let mut small = [0u8; 256];
+        put_layout(
+            &mut small[0..n],
             item,
             owner,
             set,
@@ -463,12 +453,11 @@ fn lay_with(
             media,
             second,
             carried,
-            tag,
-            locks,
         );
+        return store_draft(&mut small[0..n], tag, locks);
     }
     let mut draft = [0u8; 2048];
-    store_layout(
+    put_layout(
         &mut draft[0..n],
         item,
         owner,
@@ -477,9 +466,8 @@ fn lay_with(
         media,
         second,
         carried,
-        tag,
-        locks,
-    )
+    );
+    store_draft(&mut draft[0..n], tag, locks)
 }
 
 // The owner: the ISIL, or the alternative owner where there is none.
