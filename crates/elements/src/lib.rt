@@ -2,17 +2,10 @@
 ghost use mathlib.Core.Path.{_≡_};
 ghost use mathlib.Core.Bool.{_&&_};
 ghost use Prim.Native.Nat.{_<_};
-ghost use Rattle.format.specs.Bytes.{word, xorAll};
+ghost use Rattle.format.specs.Bytes.{xorAll};
 ghost use Rattle.format.specs.Fields.{text};
 ghost use Rattle.format.specs.Chain.{carriable};
 ghost use Rattle.format.specs.Elements.{setInfo, shape, form, value, known};
-
-// The number in two bytes, low byte first.
-fn word(low: u8, high: u8) -> usize
-    ensures { λ r. ⌜ r ≡ word low high ⌝ }
-{
-    low as usize + 256 * (high as usize)
-}
 
 // Is it text, and not empty: elements 1 and 22.
 fn some_text(s: &[u8]) -> bool
@@ -31,8 +24,8 @@ fn set_info(s: &[u8]) -> bool
     if s.len() != 4 {
         return false;
     }
-    let parts = word(s[0], s[1]);
-    let ordinal = word(s[2], s[3]);
+    let parts = strings::word(s[0], s[1]);
+    let ordinal = strings::word(s[2], s[3]);
     if 255 < parts {
         return false;
     }
@@ -75,7 +68,7 @@ fn carriable(block: &[u8]) -> bool
     if block[0] as usize != block.len() {
         return false;
     }
-    let id = word(block[1], block[2]);
+    let id = strings::word(block[1], block[2]);
     if id == 0 {
         return false;
     }

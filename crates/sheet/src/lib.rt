@@ -4,7 +4,7 @@ use format::Part;
 ghost use mathlib.Core.Path.{_≡_};
 ghost use Prim.Native.Nat.{_+_, _≤_};
 ghost use lib.ListN.{length, drop};
-ghost use Rattle.format.specs.Bytes.{all, word};
+ghost use Rattle.format.specs.Bytes.{all};
 ghost use Rattle.format.specs.Sheet.{bodyAt, countIn, entriesIn, rightSheet, formed};
 ghost use Rattle.sheet.specs.Heads.{RightOf, HeadOf, least, Seeking, Sought, placed};
 ghost use Rattle.sheet.specs.Scanning.{placesIn, scanning, scanGiven};
@@ -28,19 +28,12 @@ pub enum Scanned {
     Refused(u32),
 }
 
-// The number in two bytes, low byte first.
-fn word(low: u8, high: u8) -> usize
-    ensures { λ r. ⌜ (r ≡ word low high) × (r ≤ 65535) ⌝ }
-{
-    low as usize + 256 * (high as usize)
-}
-
 // How many entries the sheet's first two bytes name.
 fn count(sheet: &[u8]) -> usize
     requires { ⌜ 2 ≤ length (now sheet) ⌝ }
     ensures { λ r. ⌜ (r ≡ countIn (now (sheet .entry))) × (r ≤ 65535) ⌝ }
 {
-    word(sheet[0], sheet[1])
+    strings::word(sheet[0], sheet[1])
 }
 
 // What the head of an entry says: its number, its offset and its length.
@@ -58,7 +51,7 @@ fn head_at(sheet: &[u8], i: usize) -> Head
     let at = 2 + 4 * i;
     Head {
         number: sheet[at],
-        offset: word(sheet[at + 1], sheet[at + 2]),
+        offset: strings::word(sheet[at + 1], sheet[at + 2]),
         len: sheet[at + 3] as usize,
     }
 }

@@ -52,7 +52,7 @@ word-requires : tie.Need-word-requires
 word-requires c κs = search needs
 
 decided : (c : tie.After-word) → named (c .before .before .before .before .before .before .before .args .block .now) (c .word .result) ≡ carriable (c .before .before .before .before .before .before .before .args .block .now)
-decided c = id-decides _ _ (c .before .before .before .before .before .if1 .left) (c .before .before .before .if2 .left) (c .word .ensures)
+decided c = id-decides _ _ (c .before .before .before .before .before .if1 .left) (c .before .before .before .if2 .left) (c .word .ensures .0)
 
 returns-3 : tie.Need-returns-3
 returns-3 c = rw (eq-eqb _ 0 (c .if3 .taken)) at (decided (c .before))

@@ -43,7 +43,7 @@ decided : (c : tie.After-word2) → let a = c .before .before .before .before .b
     let p = c .before .before .before .word .result in
     let q = c .word2 .result in
     leb p 255 && leb q 255 && leb q p ≡ setInfo (a .s .now)
-decided c = numbers-decide _ _ _ (c .before .before .before .before .before .before .if1 .left) (c .before .before .before .word .ensures) (c .word2 .ensures)
+decided c = numbers-decide _ _ _ (c .before .before .before .before .before .before .if1 .left) (c .before .before .before .word .ensures .0) (c .word2 .ensures .0)
 
 returns-2 : tie.Need-returns-2
 returns-2 c = rw (lt-leb _ 255 (c .if2 .taken)) at (decided (c .before))
