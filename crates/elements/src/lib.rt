@@ -2,7 +2,6 @@
 ghost use mathlib.Core.Path.{_≡_};
 ghost use mathlib.Core.Bool.{_&&_};
 ghost use Prim.Native.Nat.{_<_};
-ghost use Rattle.format.specs.Bytes.{xorAll};
 ghost use Rattle.format.specs.Fields.{text};
 ghost use Rattle.format.specs.Chain.{carriable};
 ghost use Rattle.format.specs.Elements.{setInfo, shape, form, value, known};
@@ -45,19 +44,6 @@ fn media(s: &[u8]) -> bool
     s[0] != 0
 }
 
-// The XOR of all bytes.
-fn xor_all(s: &[u8]) -> u8
-    ensures { λ r. ⌜ r ≡ xorAll (now (s .entry)) ⌝ }
-{
-    let mut x: u8 = 0;
-    let mut i: usize = 0;
-    while i < s.len() {
-        x = x ^ s[i];
-        i += 1;
-    }
-    x
-}
-
 // Can the block be carried, element 255: whole and well formed, no filler, ID not 1.
 fn carriable(block: &[u8]) -> bool
     ensures { λ r. ⌜ r ≡ carriable (now (block .entry)) ⌝ }
@@ -81,7 +67,7 @@ fn carriable(block: &[u8]) -> bool
     if block.len() < 4 {
         return false;
     }
-    xor_all(block) == 0
+    strings::xor_of(block) == 0
 }
 
 // Have the bytes the shape of the element with this number; an unknown number has none.

@@ -5,7 +5,7 @@ ghost use mathlib.Core.Bool.{true, false, _||_};
 ghost use mathlib.Core.List.{[], _∷_};
 ghost use Prim.Native.Nat.{_+_, _≤_};
 ghost use lib.ListN.{length, getD};
-ghost use Rattle.format.specs.Bytes.{isEmpty, same, xorAll};
+ghost use Rattle.format.specs.Bytes.{isEmpty, same};
 ghost use Rattle.format.specs.Pages.{pageSize, goodSize};
 ghost use Rattle.format.specs.Fields.{packed, basicOwner, ownerField};
 ghost use Rattle.format.specs.Chain.{libraryBytes, blockOne};
@@ -232,19 +232,6 @@ fn put_basic(draft: &mut [u8], item: &[u8], owner: &[u8], set: &[u8], usage: &[u
     21 + owner_width(draft.len())
 }
 
-// The XOR of the bytes.
-fn xor_of(bytes: &[u8]) -> u8
-    ensures { λ r. ⌜ r ≡ xorAll (now (bytes .entry)) ⌝ }
-{
-    let mut x: u8 = 0;
-    let mut i = 0;
-    while i < bytes.len() {
-        x = x ^ bytes[i];
-        i += 1;
-    }
-    x
-}
-
 // The fields of a block 1 that has some, at byte `at`, without the 00 bytes at their end; gives the place behind them.
 fn put_fields(draft: &mut [u8], at: usize, media: u8, item: &[u8], owner: &[u8], usage: u8) -> usize
     requires { ⌜ FieldsFit at media usage (now item) (now owner) (now draft) ⌝ }
@@ -276,7 +263,7 @@ fn put_block(draft: &mut [u8], at: usize, media: u8, item: &[u8], owner: &[u8], 
     let end = put_fields(draft, at + 4, media, item, owner, usage);
     draft[at] = (end - at) as u8;
     draft[at + 1] = 1;
-    let sum = xor_of(&draft[at..end]);
+    let sum = strings::xor_of(&draft[at..end]);
     draft[at + 3] = sum;
     end
 }

@@ -68,13 +68,13 @@ returns-6 c =
     rw (ne-eqb _ 0 (c .before .before .before .if3 .left), ne-eqb _ 1 (c .before .before .if4 .left), le-leb _ 100 (c .before .if5 .left), lt-leb 4 _ (c .if6 .taken))
     at (decided (c .before .before .before .before))
 
-xor-all-requires : tie.Need-xor-all-requires
-xor-all-requires c κs = search needs
+xor-of-requires : tie.Need-xor-of-requires
+xor-of-requires c κs = search needs
 
 returns-7 : tie.Need-returns-7
 returns-7 c =
     let k = c .before in
-    rw (ne-eqb _ 0 (k .before .before .before .if3 .left), ne-eqb _ 1 (k .before .before .if4 .left), le-leb _ 100 (k .before .if5 .left), le-leb 4 _ (k .if6 .left), sym (c .xor-all .ensures))
+    rw (ne-eqb _ 0 (k .before .before .before .if3 .left), ne-eqb _ 1 (k .before .before .if4 .left), le-leb _ 100 (k .before .if5 .left), le-leb 4 _ (k .if6 .left), sym (c .xor-of .ensures))
     at (decided (k .before .before .before .before))
 
 pub carriable-spec : {M : Type 1} → statement M
@@ -92,5 +92,5 @@ carriable-spec =
     returns-4
     returns-5
     returns-6
-    xor-all-requires
+    xor-of-requires
     returns-7)

@@ -1,4 +1,4 @@
--- `image::xor_of` meets its contract. The loop's invariant: what is found so far, with the XOR of what is left, is the XOR of all.
+-- `strings::xor_of` meets its contract. The loop's invariant: what is found so far, with the XOR of what is left, is the XOR of all.
 use mathlib.Core.Path.{_≡_}
 use Prim.Native.Nat.{_-_, _≤_}
 use native.Mathlib.Omega.{arith}
@@ -7,8 +7,8 @@ use lib.Bits.{bitXor, xor-zero-l}
 use borrow.Author.Needs.{needs}
 use Rattle.format.specs.Bytes.{xorAll}
 use Rattle.format.proofs.Xor.{xor-more, xor-over}
-use Rattle.image.proofs.xor_of.Statement.{statement}
-use Rattle.image.proofs.xor_of.Tie as tie
+use Rattle.strings.proofs.xor_of.Statement.{statement}
+use Rattle.strings.proofs.xor_of.Tie as tie
 
 abbrev Inv-loop : tie.InvT-loop
 Inv-loop bytes x₀ i₀ x i = (i ≤ length bytes) × (bitXor x (xorAll (drop i bytes)) ≡ xorAll bytes)
