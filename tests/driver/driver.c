@@ -12,7 +12,7 @@
    by the clock.
 
    Build: cc -I include tests/driver/driver.c LIBRARY -o driver
-   Where a compiler has no headers at all: add -DURP_NO_LIBC_HEADERS and -I tests/driver/bare. */
+   Where a compiler has no headers at all: add -DURP_NO_LIBC_HEADERS and -I examples/libc. */
 
 #ifdef URP_NO_LIBC_HEADERS
 #include <stddef.h>
