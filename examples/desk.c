@@ -73,15 +73,18 @@ static void show_sheet(const uint8_t *sheet)
     }
 }
 
-static void show_tag(const uint8_t *tag, size_t len)
+/* Shows the pages whose bytes are others than before: those that a host sends
+   to the chip. */
+static void show_changed(const uint8_t *before, const uint8_t *tag, size_t len)
 {
     size_t at;
 
     for (at = 0; at < len; at += URP_PAGE)
-        printf("  page %3lu  %02X %02X %02X %02X\n",
-               (unsigned long)(at / URP_PAGE), (unsigned)tag[at],
-               (unsigned)tag[at + 1], (unsigned)tag[at + 2],
-               (unsigned)tag[at + 3]);
+        if (memcmp(before + at, tag + at, URP_PAGE) != 0)
+            printf("  page %3lu  %02X %02X %02X %02X\n",
+                   (unsigned long)(at / URP_PAGE), (unsigned)tag[at],
+                   (unsigned)tag[at + 1], (unsigned)tag[at + 2],
+                   (unsigned)tag[at + 3]);
 }
 
 /* ---- files ---- */
@@ -365,6 +368,7 @@ static const uint8_t whole_sheet[] = {
 static int demo_owner(struct tag *tag, const struct element *owner,
                       struct element *old, size_t *pages)
 {
+    struct tag before = *tag;
     uint32_t answer = urp_edit(tag->bytes, tag->len, tag->locks,
                                tag->locks_len, owner->number,
                                owner->bytes, owner->len,
@@ -379,6 +383,7 @@ static int demo_owner(struct tag *tag, const struct element *owner,
     printf(": pages changed %lu, old element ", (unsigned long)*pages);
     put_hex(stdout, old->bytes, old->len);
     fputs("\n", stdout);
+    show_changed(before.bytes, tag->bytes, tag->len);
     return DONE;
 }
 
@@ -422,13 +427,14 @@ static int demo(void)
     memset(&tag, 0, sizeof tag);
     tag.len = 36;
     tag.locks_len = tag.len / URP_PAGE;
+    start = tag;
     answer = urp_write(whole_sheet, sizeof whole_sheet, tag.bytes, tag.len,
                        tag.locks, tag.locks_len, &pages);
     if (answer != URP_DONE)
         return refused(answer);
     printf("write  on a blank tag of 36 bytes: pages changed %lu\n",
            (unsigned long)pages);
-    show_tag(tag.bytes, tag.len);
+    show_changed(start.bytes, tag.bytes, tag.len);
 
     answer = urp_read(tag.bytes, tag.len, sheet, sizeof sheet, &used);
     if (answer != URP_DONE)

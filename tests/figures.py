@@ -18,7 +18,8 @@ def lines(crate, folder, suffix, comment):
 
 def main():
     if len(sys.argv) > 1:
-        sys.exit("usage: tests/figures.py")
+        print("usage: tests/figures.py", file=sys.stderr)
+        sys.exit(2)
     crates = [name.split(":")[0] for name in (ROOT / "crates.txt").read_text().splitlines() if name.strip() and not name.startswith("#")]
     sums = [0, 0, 0, 0]
     print("| Crate | Code | Definitions | Proofs | Must-fail edits |\n|---|---|---|---|---|")

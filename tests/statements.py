@@ -47,6 +47,9 @@ def exceptions():
 
 
 def main():
+    if len(sys.argv) > 1:
+        print('usage: tests/statements.py', file=sys.stderr)
+        return 2
     listed = exceptions()
     used, wrong, seen = set(), [], 0
     for path in sorted((ROOT / 'crates').glob('*/src/**/*.rt')):

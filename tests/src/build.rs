@@ -12,6 +12,22 @@ pub fn hex(digits: &str) -> Vec<u8> {
     digits.chunks(2).map(|pair| value(pair[0]) << 4 | value(pair[1])).collect()
 }
 
+/// A sheet of 4, 5 and carried blocks, the last of which begins at this place, where the offsets of two bytes allow it.
+pub fn sheet_up_to(place: usize) -> Vec<u8> {
+    let (mut blocks, mut last) = (Vec::new(), 15 + 4);
+    while last < place {
+        // Each block before the last takes its bytes and four in the header.
+        let length = (place - last - 4).min(255);
+        let length = if (1..7).contains(&(place - last - 4 - length)) { length - 7 } else { length };
+        blocks.push(block(300, &vec![b'x'; length - 3]));
+        last += 4 + length;
+    }
+    blocks.push(block(300, b""));
+    let mut entries = vec![(4, &[1, 0, 1, 0][..]), (5, &[0x10])];
+    entries.extend(blocks.iter().map(|block| (255, &block[..])));
+    sheet(&entries)
+}
+
 /// A block with this ID and these bytes after it, or after the checksum where the ID is structured.
 pub fn block(id: u16, body: &[u8]) -> Vec<u8> {
     let [low, high] = id.to_le_bytes();

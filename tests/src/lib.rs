@@ -2,11 +2,13 @@
 //!
 //! - [`model`]: the reader, the writer, the editor and the listing.
 //! - [`build`], [`examples`]: bytes put together by hand, and the cases that the papers print.
+//! - [`alphabets`]: every byte in every field.
 //! - [`trial`]: the calls as the tests make them.
 //! - [`random`], [`generate`]: whole, loose and damaged sheets, tags, lock maps and edits from a seed.
 //! - [`history`]: many edits of one tag, and the way back.
 //! - [`compare`]: runs a library, through the C driver, on such cases and compares every answer and every byte.
 
+pub mod alphabets;
 pub mod build;
 pub mod compare;
 pub mod examples;

@@ -43,6 +43,11 @@ fn outcome(call: Call) -> Result<Outcome, u32> {
     }
 }
 
+/// The call's answer alone.
+pub fn answer(call: Call) -> u32 {
+    outcome(call).err().unwrap_or(0)
+}
+
 /// What stands in a buffer before it is filled: no byte like its neighbour.
 fn unlike_anything(room: usize) -> Vec<u8> {
     (0..room).map(|place| (place * 7) as u8 ^ 0x5A).collect()

@@ -1,5 +1,6 @@
 //! All tests of the independent program, a file for each purpose.
 
+mod alphabets;
 mod comparison;
 mod generators;
 mod histories;

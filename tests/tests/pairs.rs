@@ -83,3 +83,13 @@ fn the_whole_case_in_both_directions() {
     assert_eq!(listing(&[]), "refused 1\n");
     assert_eq!(listing(&[0x11; 2049]), "refused 1\n");
 }
+
+#[test]
+fn taglist_takes_2048_bytes_and_not_one_more() {
+    let mut input = tag_with(&[(1, b"B1")], 2048);
+    assert_eq!(listing(&input), WHOLE_CASE_LISTING);
+    for _ in 0..8 {
+        input.push(0);
+        assert_eq!(listing(&input), "refused 1\n", "{} bytes", input.len());
+    }
+}

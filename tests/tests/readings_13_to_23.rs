@@ -86,6 +86,16 @@ fn reading_17_ends_doubles_and_insides_of_carried_blocks() {
 
     let doubles = [&block(2, b"a")[..], &block(2, b"a")];
     assert_eq!(besides(&chained(&doubles)), carried(&doubles));
+    let (media, other) = (&block(1, &[5])[..], &block(2, b"a")[..]);
+    for chain in [
+        &[media, media][..],
+        &[media, other, media],
+        &[other, media, media],
+        &[media, &[1], media],
+        &[other, media, &[1], other, &[1], media],
+    ] {
+        assert_eq!(read(&chained(chain)), Err(5), "a second block 1, wherever it stands");
+    }
     let zeros = block(3, &[b'x', 0, 0, 0, 1, 0, 0]);
     assert_eq!(besides(&chained(&[&zeros])), carried(&[&zeros]), "neither judged nor stripped");
     assert!(!is_loose(&chained(&[&zeros])));

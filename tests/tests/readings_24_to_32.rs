@@ -61,6 +61,11 @@ fn reading_26_every_offset_is_the_running_place_and_none_wraps() {
         entries.resize(2 + count, (255, &longest));
         assert_eq!(written(&build::sheet(&entries), 2048), Err(answer), "{count} blocks");
     }
+    for (place, answer) in [(65_534, 11), (65_535, 11), (65_536, 8), (65_537, 8)] {
+        let sheet = build::sheet_up_to(place);
+        assert_eq!(sheet.len(), place + 3, "the last of 3 bytes");
+        assert_eq!(written(&sheet, 2048), Err(answer), "an entry at {place}");
+    }
     let shortest = block(300, b"");
     for (count, answer) in [(671, None), (672, Some(11))] {
         let sheet = sheet_with(&vec![(255, &shortest[..]); count]);

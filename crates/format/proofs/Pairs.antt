@@ -1,5 +1,5 @@
 -- Two tables of worked examples, each under a single statement that is computed: the pairs that document 01 marks P, and the whole case
--- with the published examples B.1 and B.2 of the standard, each read and written.
+-- with the published examples B.1 and B.2 of the standard, each read and written, and what lock maps and C hosts get of them.
 use Prim.Native.Nat.{ℕ, _+_, _-_, _/_}
 use mathlib.Core.Bool.{Bool, false, not, _&&_}
 use mathlib.Core.List.{List, [], _∷_, _++_}
@@ -16,6 +16,7 @@ use Rattle.format.specs.Sheet.{heads, bodies, sheetOf, offsetsFit, risin
 use Rattle.format.specs.Layout.{library, front, basic, laidOut, image, fits}
 use Rattle.format.specs.Reading.{goodFields, agree, ownerOn, contentIn, tagSteps}
 use Rattle.format.specs.Calls.{readSteps, reading, layingSteps, writeSteps, writing, ownLayout, editSteps, Edited, editing}
+use Rattle.format.specs.Numbers.{numberOf, resultOf}
 
 -- ---- ways to say what came out
 
@@ -133,9 +134,30 @@ wideNumber = isValue (editing pageSize tag2 (zeros 19) 257 item2 (zeros 255) .an
     isValue (got x) = false
     isValue (refused (plain k)) = eqb k 9
 
+-- a lock map of another length, or with a byte above 1, is refused 1, although no page would change; 1 locks a page
+lockMaps : Bool
+lockMaps =
+    let again : List ℕ → Answer ℕ = λ locks. writing pageSize wholeSheet wholeTag locks .answer in
+    gives (again (zeros 9)) 0 && gives (again (replicate 9 1)) 0 && refuses (again (zeros 8)) 1 && refuses (again (zeros 10)) 1
+    && refuses (again (2 ∷ zeros 8)) 1 && refuses (again (zeros 8 ++ (2 ∷ []))) 1
+    && gives (writing pageSize wholeSheet (zeros 36) (zeros 8 ++ (1 ∷ [])) .answer) 4
+    && refuses (writing pageSize wholeSheet (zeros 36) (1 ∷ zeros 8) .answer) 12
+
+-- what a C host gets: 0 and the results, or at a refusal its number and what stood behind the pointers
+resultsInC : Bool
+resultsInC =
+    let read = reading pageSize wholeTag (zeros 21) .answer in
+    let short = reading pageSize wholeTag (zeros 20) .answer in
+    let edited = editing pageSize tag2 (zeros 19) 3 isilUs (zeros 255) .answer in
+    let wide = editing pageSize tag2 (zeros 19) 257 isilUs (zeros 255) .answer in
+    eqb (numberOf read) 0 && eqb (resultOf (λ n. n) read 77) 21 && eqb (numberOf short) 2 && eqb (resultOf (λ n. n) short 77) 77
+    && eqb (numberOf edited) 0 && eqb (resultOf (λ e. e .pages) edited 77) 4 && eqb (resultOf (λ e. e .old) edited 77) 9
+    && eqb (numberOf wide) 9 && eqb (resultOf (λ e. e .pages) wide 77) 77 && eqb (resultOf (λ e. e .old) wide 78) 78
+
 pub examples : List Bool
-examples = isSheetOf wholeSheet wholeTag ∷ isSheetOf sheet1 tag1 ∷ isSheetOf sheet2 tag2 ∷ changedBack ∷ wideNumber ∷ []
+examples =
+    isSheetOf wholeSheet wholeTag ∷ isSheetOf sheet1 tag1 ∷ isSheetOf sheet2 tag2 ∷ changedBack ∷ wideNumber ∷ lockMaps ∷ resultsInC ∷ []
 
 pub examples-hold : T (all (λ b. b) examples)
-unfolding examples isilUs wholeSheet wholeFront wholeTag isilDk fieldDk item1 tag1 sheet1 item2 acquisition tag2 sheet2 changedBack wideNumber need inOrder afterwards andThen orElse passed all same le16 word padWith trim strip upTo past xorAll joined goodSize lockMap differs lockedDiffers count changed lockedChanged crcBit crcBits crcByte crcFrom crc covered textByte text capital unitByte isilOf isil alternative isOwner goodItem prefixIn ownerSaid goodOwner itemField packed basicOwner ownerField wellFormed carriable walk chain libraryBlock otherBlocks payload lastField libraryIn goodLibrary libraryBytes sealed blockOne numbers setInfo shape form value placeIn place known put clash heads bodies sheetOf offsetsFit risingFrom rising cut entriesIn rightSheet find carriedIn contentOf goodValues entriesAt carriedEntries entries library front basic laidOut image fits goodFields agree ownerOn contentIn tagSteps readSteps reading layingSteps writeSteps writing ownLayout editSteps editing
+unfolding examples isilUs wholeSheet wholeFront wholeTag isilDk fieldDk item1 tag1 sheet1 item2 acquisition tag2 sheet2 changedBack wideNumber lockMaps resultsInC need inOrder afterwards andThen orElse passed all same le16 word padWith trim strip upTo past xorAll joined goodSize lockMap differs lockedDiffers count changed lockedChanged crcBit crcBits crcByte crcFrom crc covered textByte text capital unitByte isilOf isil alternative isOwner goodItem prefixIn ownerSaid goodOwner itemField packed basicOwner ownerField wellFormed carriable walk chain libraryBlock otherBlocks payload lastField libraryIn goodLibrary libraryBytes sealed blockOne numbers setInfo shape form value placeIn place known put clash heads bodies sheetOf offsetsFit risingFrom rising cut entriesIn rightSheet find carriedIn contentOf goodValues entriesAt carriedEntries entries library front basic laidOut image fits goodFields agree ownerOn contentIn tagSteps readSteps reading layingSteps writeSteps writing ownLayout editSteps editing
 examples-hold = tt

@@ -4,3 +4,4 @@ pub mod Outcome
 pub mod Printed
 pub mod Examples
 pub mod Room
+pub mod Longest

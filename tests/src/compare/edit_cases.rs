@@ -3,6 +3,7 @@
 use super::case::{Call, Case};
 use super::read_cases::everything;
 use super::taglist;
+use crate::alphabets::{self, Place};
 use crate::build::Draft;
 use crate::examples;
 use crate::generate::{edits, locks, tags};
@@ -14,8 +15,9 @@ use crate::random::Random;
 
 /// The fixed cases and so many random ones.
 pub fn all(seed: u64, count: usize) -> impl Iterator<Item = Case> + Send {
-    let fixed = numbers().chain(value_lengths()).chain(old_rooms()).chain(lengths()).chain(refused()).chain(locked());
-    fixed.chain(random(seed, count))
+    let edits = numbers().chain(value_lengths()).chain(old_rooms()).chain(alphabets::cases(Place::edit));
+    let tags = lengths().chain(refused()).chain(locked());
+    edits.chain(tags).chain(random(seed, count))
 }
 
 /// Random bytes, random bytes that pass 4, tags in the writer's own layout, and tags of any kind.

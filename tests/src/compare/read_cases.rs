@@ -2,6 +2,7 @@
 
 use super::case::{Call, Case};
 use super::taglist;
+use crate::alphabets::{self, Place};
 use crate::build::{self, Draft};
 use crate::examples;
 use crate::generate::tags;
@@ -10,7 +11,7 @@ use crate::random::Random;
 
 /// The fixed cases and so many random ones.
 pub fn all(seed: u64, count: usize) -> impl Iterator<Item = Case> + Send {
-    published().chain(refused()).chain(lengths()).chain(random(seed, count))
+    published().chain(refused()).chain(lengths()).chain(alphabets::cases(Place::read)).chain(random(seed, count))
 }
 
 /// Random bytes, random bytes that pass 4, and tags of any kind.

@@ -34,7 +34,9 @@ pub fn fixed() -> Vec<Vec<u8>> {
     let mut inputs: Vec<Vec<u8>> = examples::all().map(|example| example.tag).to_vec();
     inputs.extend([vec![], vec![0; 36], vec![0x11; 36], vec![0xFF; 2048], vec![0x11; 2049], vec![0; 5000]]);
     inputs.push([&examples::b2().tag[..], b"\n"].concat());
+    inputs.extend(about_the_longest());
     inputs.push(plain.clone().chain(&[&[2, 0]]).tag(40));
+    inputs.push(plain.clone().chain(&[&block(1, &[5]), &block(2, b"a"), &block(1, &[5])]).tag(64));
     inputs.push(plain.clone().owner(b"DK").tag(36));
     inputs.push(plain.clone().owner(&[0, 0, 1]).tag(36));
     inputs.push(Draft { ordinal: 2, ..plain.clone() }.tag(32));
@@ -42,6 +44,16 @@ pub fn fixed() -> Vec<Vec<u8>> {
     let everything = super::read_cases::everything(b"ABC-1234", 30);
     inputs.push(layout(&everything, 112).expect("it fits"));
     inputs
+}
+
+/// A tag of 2,048 bytes that reads, cut short by a page and less, and with up to a page more behind it: 00, and bytes that are no 00.
+fn about_the_longest() -> impl Iterator<Item = Vec<u8>> {
+    let mut longest = Draft::default().chain(&[&block(300, b"longest")]).tag(2048);
+    longest.extend([0, 0, 0, 0]);
+    let filled = [&longest[..2048], &[1, 0x11, 1, 1]].concat();
+    (2044..=2052)
+        .map(move |length| longest[..length].to_vec())
+        .chain((2049..=2052).map(move |length| filled[..length].to_vec()))
 }
 
 /// What the program prints for this input. It need not take all of it.

@@ -1,6 +1,8 @@
 //! Cases of writing.
 
 use super::case::{Call, Case};
+use crate::alphabets::{self, Place};
+use crate::build::sheet_up_to;
 use crate::examples;
 use crate::generate::{locks, sheets, tags};
 use crate::model::{self, pages};
@@ -9,8 +11,9 @@ use crate::trial::sheet_with;
 
 /// The fixed cases and so many random ones.
 pub fn all(seed: u64, count: usize) -> impl Iterator<Item = Case> + Send {
-    let fixed = published().chain(short_sheets()).chain(changed_sheets()).chain(lengths()).chain(refused());
-    fixed.chain(random(seed, count))
+    let sheets = published().chain(short_sheets()).chain(changed_sheets()).chain(offsets());
+    let others = lengths().chain(refused()).chain(lock_maps()).chain(alphabets::cases(Place::write));
+    sheets.chain(others).chain(random(seed, count))
 }
 
 /// Random bytes, random entries, sheets with random changes, and sheets of any kind.
@@ -75,6 +78,32 @@ fn changed_sheets() -> impl Iterator<Item = Case> + Send {
             cut
         });
         changed.chain(cut).map(move |sheet| Case::new(group, Call::write(sheet, vec![0xEE; 76], locks::open(76))))
+    })
+}
+
+/// Sheets whose last entry begins about where an offset of two bytes ends.
+fn offsets() -> impl Iterator<Item = Case> + Send {
+    (65_530..=65_540).map(|place| {
+        let call = Call::write(sheet_up_to(place), vec![0xEE; 64], locks::open(64));
+        Case::new("last entries at 65,530 to 65,540", call)
+    })
+}
+
+/// Lock maps about the right length, and every byte in the first and in the last page's place.
+fn lock_maps() -> impl Iterator<Item = Case> + Send {
+    let lengths = (0..=20).map(|length| vec![0; length]);
+    let bytes = (0..=255).flat_map(|byte| {
+        [0, 8].map(|page| {
+            let mut map = vec![0; 9];
+            map[page] = byte;
+            map
+        })
+    });
+    lengths.chain(bytes).flat_map(|map| {
+        [vec![0xEE; 36], examples::whole_case().tag].map(|tag| {
+            let call = Call::write(examples::whole_case().sheet, tag, map.clone());
+            Case::new("lock maps of 0 to 20 bytes, and of every byte", call)
+        })
     })
 }
 

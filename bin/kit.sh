@@ -1,3 +1,4 @@
+# shellcheck shell=sh disable=SC2154
 # The Rattle kit, for the scripts of this repository, which set me (the name for messages) and root (the repository).
 # kit.txt is the one place where it is pinned: by the identity of its logic, which is what the proofs were checked with.
 
