@@ -68,6 +68,7 @@ fn in_tags() -> Vec<Place> {
     vec![
         place("item field, first byte", text, |x| Draft::default().item(&[x, b'b'])),
         place("item field", text, |x| Draft::default().item(&[b'a', x, b'b'])),
+        place("item field, alone", |x| text(x) || x <= 1, |x| with_block_one(&[x], b"", b"\0item")),
         place("owner field, first byte of an ISIL", capital, |x| Draft::default().owner(&[x, b'K', b'1', b'1'])),
         place(
             "owner field, second byte of an ISIL",

@@ -12,20 +12,19 @@ pub fn hex(digits: &str) -> Vec<u8> {
     digits.chunks(2).map(|pair| value(pair[0]) << 4 | value(pair[1])).collect()
 }
 
-/// A sheet of 4, 5 and carried blocks, the last of which begins at this place, where the offsets of two bytes allow it.
-pub fn sheet_up_to(place: usize) -> Vec<u8> {
-    let (mut blocks, mut last) = (Vec::new(), 15 + 4);
-    while last < place {
-        // Each block before the last takes its bytes and four in the header.
-        let length = (place - last - 4).min(255);
-        let length = if (1..7).contains(&(place - last - 4 - length)) { length - 7 } else { length };
-        blocks.push(block(300, &vec![b'x'; length - 3]));
-        last += 4 + length;
+/// Blocks to carry besides 4 and 5, the last of which, of 3 bytes, begins at this place of the sheet.
+pub fn blocks_up_to(place: usize) -> Vec<Vec<u8>> {
+    let mut blocks = Vec::new();
+    // A block before the last puts it off by its bytes and by four in the header.
+    let mut off = place - (2 + 4 * 3 + 5);
+    while off > 0 {
+        let longest = off.min(4 + 255);
+        let step = if (1..7).contains(&(off - longest)) { longest - 7 } else { longest };
+        blocks.push(block(300, &vec![b'x'; step - 4 - 3]));
+        off -= step;
     }
     blocks.push(block(300, b""));
-    let mut entries = vec![(4, &[1, 0, 1, 0][..]), (5, &[0x10])];
-    entries.extend(blocks.iter().map(|block| (255, &block[..])));
-    sheet(&entries)
+    blocks
 }
 
 /// A block with this ID and these bytes after it, or after the checksum where the ID is structured.

@@ -137,6 +137,12 @@ pub fn sheet_with(entries: &[(u8, &[u8])]) -> Vec<u8> {
     build::sheet(&all)
 }
 
+/// The sheet of 4, 5 and carried blocks whose last entry, of 3 bytes, begins at this place.
+pub fn sheet_up_to(place: usize) -> Vec<u8> {
+    let blocks = build::blocks_up_to(place);
+    sheet_with(&blocks.iter().map(|block| (255, &block[..])).collect::<Vec<_>>())
+}
+
 /// The tag of this length in the writer's own layout with these elements besides 4 and 5.
 pub fn tag_with(entries: &[(u8, &[u8])], length: usize) -> Vec<u8> {
     written(&sheet_with(entries), length).expect("elements that fit")

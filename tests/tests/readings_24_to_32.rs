@@ -3,7 +3,7 @@
 use independent::build::{self, block, hex};
 use independent::generate::locks;
 use independent::model::element;
-use independent::trial::{besides, edited, elements, only, read, sheet_with, tag_with, write, written};
+use independent::trial::{besides, edited, elements, only, read, sheet_up_to, sheet_with, tag_with, write, written};
 
 const SET: (u8, &[u8]) = (4, &[1, 0, 1, 0]);
 const USAGE: (u8, &[u8]) = (5, &[0x10]);
@@ -62,7 +62,7 @@ fn reading_26_every_offset_is_the_running_place_and_none_wraps() {
         assert_eq!(written(&build::sheet(&entries), 2048), Err(answer), "{count} blocks");
     }
     for (place, answer) in [(65_534, 11), (65_535, 11), (65_536, 8), (65_537, 8)] {
-        let sheet = build::sheet_up_to(place);
+        let sheet = sheet_up_to(place);
         assert_eq!(sheet.len(), place + 3, "the last of 3 bytes");
         assert_eq!(written(&sheet, 2048), Err(answer), "an entry at {place}");
     }

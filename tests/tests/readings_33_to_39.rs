@@ -1,6 +1,6 @@
 //! The readings of document 01, points 33 to 39: reading, editing, `taglist`.
 
-use independent::build::block;
+use independent::build::{block, blocks_up_to};
 use independent::examples;
 use independent::generate::{locks, sheets, tags};
 use independent::model::layout::layout;
@@ -26,6 +26,8 @@ fn reading_33_room_equal_to_the_length_is_enough_and_14_is_coded() {
     let sheet = sheet::of_content(&carrying(vec![longest.clone(); 253])).unwrap();
     assert_eq!(sheet.len(), 65_542);
     assert_eq!(sheet::of_content(&carrying(vec![longest; 254])), Err(14));
+    let up_to = |place| sheet::of_content(&carrying(blocks_up_to(place))).map(|sheet| sheet.len());
+    assert_eq!((up_to(65_535), up_to(65_536)), (Ok(65_538), Err(14)));
     let most = tag_with(&vec![(255, &block(300, b"")[..]); 671], 2048);
     assert_eq!(read(&most).unwrap().len(), 2 + 4 * 673 + 5 + 3 * 671);
 }

@@ -3,7 +3,7 @@
 
 use independent::build::{self, block, Draft};
 use independent::generate::locks;
-use independent::model::refusal::{EDITING, OFFSET, READING, WRITING};
+use independent::model::refusal::{name, EDITING, OFFSET, READING, WRITING};
 use independent::model::sheet;
 use independent::trial::{carrying, edit_under, edited, read, read_into, sheet_with, tag_with, write, written};
 
@@ -43,6 +43,13 @@ fn reading_gives_each_refusal() {
     assert_eq!(read_into(&tag, 14), Err(2));
     assert_eq!(read_into(&tag, 15).map(|sheet| sheet.len()), Ok(15));
     assert_eq!(sheet::of_content(&carrying(vec![block(300, &[1; 252]); 254])), Err(OFFSET));
+}
+
+#[test]
+fn the_numbers_have_the_words_of_the_table() {
+    let table =
+        "accepted Size Room Content Check Block Field Mismatch Sheet Value Clash Large Locked Loose Offset unknown";
+    assert_eq!((0..=15).map(name).collect::<Vec<_>>().join(" "), table);
 }
 
 #[test]

@@ -2,12 +2,11 @@
 
 use super::case::{Call, Case};
 use crate::alphabets::{self, Place};
-use crate::build::sheet_up_to;
 use crate::examples;
 use crate::generate::{locks, sheets, tags};
 use crate::model::{self, pages};
 use crate::random::Random;
-use crate::trial::sheet_with;
+use crate::trial::{sheet_up_to, sheet_with};
 
 /// The fixed cases and so many random ones.
 pub fn all(seed: u64, count: usize) -> impl Iterator<Item = Case> + Send {
