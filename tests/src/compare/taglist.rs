@@ -46,7 +46,7 @@ pub fn fixed() -> Vec<Vec<u8>> {
     inputs
 }
 
-/// A tag of 2,048 bytes that reads, cut short by a page and less, and with up to a page more behind it: 00, and bytes that are no 00.
+/// A tag of 2,048 bytes that reads; cut by up to a page; with up to a page more behind it, of 00 and of other bytes.
 fn about_the_longest() -> impl Iterator<Item = Vec<u8>> {
     let mut longest = Draft::default().chain(&[&block(300, b"longest")]).tag(2048);
     longest.extend([0, 0, 0, 0]);
