@@ -7,10 +7,7 @@
 #               examples/libc. kit=yes tries the same, without the emulator, on
 #               x86-64.
 
-stop() {
-    echo "$me: $*" >&2
-    exit 2
-}
+. "$root/bin/kit.sh"
 
 c_setup() {
     machine=$(uname -m)

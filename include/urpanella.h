@@ -87,9 +87,8 @@ extern "C" {
 #define URP_SHEET_MAX 8192
 #define URP_OLD_MAX 255
 
-/* Bytes of stack for any call, with some to spare. It is measured, over some
-   hundred thousand calls on x86-64, and not proved: urp_read takes 1,216,
-   urp_write 3,152, urp_edit 8,176. */
+/* Bytes of stack for any call, with some to spare: measured over some hundred
+   thousand calls on x86-64, and not proved. docs/FIGURES.md has each call's. */
 #define URP_STACK_MAX 10240
 
 /* Element numbers. */

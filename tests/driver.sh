@@ -2,7 +2,6 @@
 # The library, the C driver and the independent program, for the scripts of this folder that hold one against the other. They set me (the
 # name for messages) and root (the repository), and stand in root.
 kit=no
-. bin/kit.sh
 . examples/cc.sh
 . tests/compare.sh
 need_kit

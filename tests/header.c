@@ -10,6 +10,10 @@
 enum { TAG = 256, LOCKS = TAG / URP_PAGE };
 
 static const uint8_t open_pages[LOCKS] = {0};
+
+/* the header's first example */
+static const uint8_t two[] = { 0x05, 0x02, 0x00, 0x46, 0x41 };
+
 static int wrong;
 
 static void expect(int holds, const char *what)
@@ -71,7 +75,6 @@ static uint32_t carry(const uint8_t *block, size_t len)
 
 static void blocks(void)
 {
-    static const uint8_t two[] = { 0x05, 0x02, 0x00, 0x46, 0x41 };
     static const uint8_t three_hundred[] = { 0x04, 0x2C, 0x01, 0x41 };
     static const unsigned ids[] = { 2, 3, 99, 100, 101, 255, 256, 257, 65535 };
     uint8_t block[255], rest[200];
@@ -111,7 +114,6 @@ static size_t differing(const uint8_t *a, const uint8_t *b)
 
 static void sending(void)
 {
-    static const uint8_t two[] = { 0x05, 0x02, 0x00, 0x46, 0x41 };
     uint8_t sheet[64], tag[TAG], before[TAG], chip[TAG];
     size_t sheet_len = make_sheet(sheet, two, sizeof two), pages, sent;
 
