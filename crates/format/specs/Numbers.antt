@@ -14,6 +14,8 @@ use Rattle.format.specs.declared.WriteAnswer.{WriteAnswer}
 use Rattle.format.specs.declared.WriteAnswer.the-variants as write
 use Rattle.format.specs.declared.EditAnswer.{EditAnswer}
 use Rattle.format.specs.declared.EditAnswer.the-variants as edit
+use Rattle.format.specs.declared.Stage.{Stage}
+use Rattle.format.specs.declared.Stage.the-variants as stage
 
 abbrev pub readGiven : ReadAnswer → Answer ℕ
 readGiven (read.Done n) = got n
@@ -26,6 +28,11 @@ writeGiven (write.Refused k) = refused (plain k)
 abbrev pub editGiven : EditAnswer → Answer Edited
 editGiven (edit.Done p o) = got (record { pages = p; old = o })
 editGiven (edit.Refused k) = refused (plain k)
+
+-- a stage of a call is a step of it
+abbrev pub stageGiven : Stage → Step
+stageGiven stage.Passed = got tt
+stageGiven (stage.Refused k) = refused (plain k)
 
 -- the numbers that each call can give, in its order
 unfoldable pub readNumbers : List ℕ

@@ -1,4 +1,7 @@
-// The answers of the three calls. What each case means is said in `specs/Numbers.antt`; the refusals' numbers are the paper's.
+// The answers of the three calls and of their stages. What each case means is said in `specs/Numbers.antt`; the refusals' numbers are the
+// paper's.
+ghost use mathlib.Core.Path.{_≡_};
+ghost use Rattle.format.specs.Numbers.{numberOf, stageGiven};
 
 // Reading: the sheet's length, or the number of the refusal.
 pub enum ReadAnswer {
@@ -16,6 +19,22 @@ pub enum WriteAnswer {
 pub enum EditAnswer {
     Done { pages: usize, old: usize },
     Refused(u32),
+}
+
+// A stage of a call: passed, or the number of its refusal.
+pub enum Stage {
+    Passed,
+    Refused(u32),
+}
+
+// The number of a stage's refusal, 0 for none.
+pub fn stage_number(stage: Stage) -> u32
+    ensures { λ r. ⌜ r ≡ numberOf (stageGiven stage) ⌝ }
+{
+    match stage {
+        Stage::Passed => 0,
+        Stage::Refused(k) => k,
+    }
 }
 
 // Where some bytes stand in a slice: `len` of them from `at`.
