@@ -6,7 +6,7 @@ ghost use lib.ListN.{getD, drop};
 ghost use Rattle.format.specs.Bytes.{xorAll};
 ghost use Rattle.format.specs.Chain.{idOf, wellFormed, isLibrary};
 ghost use Rattle.chain.specs.Part.{thatPart};
-ghost use Rattle.chain.specs.Survey.{surveyOf};
+ghost use Rattle.chain.specs.Survey.{surveyOf, surveyNumber};
 
 // ---- the walker
 
@@ -64,7 +64,7 @@ pub fn block_at<'a>(tag: &'a [u8], at: usize) -> &'a [u8]
 
 // ---- the chain
 
-// What the chain holds, or that it is damaged.
+// What the chain holds, or the number of its refusal, 5: it is damaged.
 pub enum Survey {
     // `library` is where block 1 begins and `length` its length, both 0 where there is none; `count` is how many other
     // blocks there are, and `size` how many bytes they have together; `end` is the place behind the chain, where the 00 stands
@@ -76,7 +76,7 @@ pub enum Survey {
         size: usize,
         end: usize,
     },
-    Damaged,
+    Refused(u32),
 }
 
 // A block's ID, low byte first; a byte that the block lacks counts as 00.
@@ -162,7 +162,7 @@ pub fn survey_of(tag: &[u8]) -> Survey
         at += n;
     }
     if damaged {
-        Survey::Damaged
+        Survey::Refused(5)
     } else {
         Survey::Whole {
             library,
@@ -171,5 +171,15 @@ pub fn survey_of(tag: &[u8]) -> Survey
             size,
             end: at,
         }
+    }
+}
+
+// The number of a refusal that the survey gave, 0 for none.
+pub fn survey_number(survey: Survey) -> u32
+    ensures { λ r. ⌜ r ≡ surveyNumber survey ⌝ }
+{
+    match survey {
+        Survey::Whole { .. } => 0,
+        Survey::Refused(k) => k,
     }
 }

@@ -13,7 +13,7 @@ use borrow.Author.Tests.{eq-eqb, ne-eqb, not-true, not-false}
 use Rattle.format.specs.Bytes.{if_then_else_, xorAll}
 use Rattle.format.specs.Chain.{idOf}
 use Rattle.chain.specs.declared.Survey.{Survey}
-use Rattle.chain.specs.declared.Survey.the-variants.{Whole, Damaged}
+use Rattle.chain.specs.declared.Survey.the-variants.{Whole, Refused}
 use Rattle.chain.specs.Survey.{surveyOf}
 use Rattle.chain.proofs.Chain.{right, blockIn, past-end, Stands}
 use Rattle.chain.proofs.Turns.{xor-more, xor-all, seen, SoFar, start, ended, filler, damaged, cut-short, there, library, other, moved}
@@ -85,15 +85,15 @@ short c =
 
 -- ---- the ways out
 
-so : (d : Bool) (w : Survey) {r : Survey} → d ≡ false → w ≡ r → (if d then Damaged else w) ≡ r
-so d w e q = ap (λ (x : Bool). if x then Damaged else w) e ∙ q
+so : (d : Bool) (w : Survey) {r : Survey} → d ≡ false → w ≡ r → (if d then Refused 5 else w) ≡ r
+so d w e q = ap (λ (x : Bool). if x then Refused 5 else w) e ∙ q
 
-not-so : (d : Bool) (w : Survey) {r : Survey} → d ≡ true → Damaged ≡ r → (if d then Damaged else w) ≡ r
-not-so d w e q = ap (λ (x : Bool). if x then Damaged else w) e ∙ q
+not-so : (d : Bool) (w : Survey) {r : Survey} → d ≡ true → Refused 5 ≡ r → (if d then Refused 5 else w) ≡ r
+not-so d w e q = ap (λ (x : Bool). if x then Refused 5 else w) e ∙ q
 
 -- however the chain was left, the flag and the numbers say what is right
 left-rightly : (c : tie.Left-chain Inv-loop μ-loop Inv-chain μ-chain)
-    → (if c .chain-test .damaged then Damaged else Whole (c .before .chain .library) (c .before .chain .length) (c .before .chain .count) (c .before .chain .size) (c .before .chain .at))
+    → (if c .chain-test .damaged then Refused 5 else Whole (c .before .chain .library) (c .before .chain .length) (c .before .chain .count) (c .before .chain .size) (c .before .chain .at))
     ≡ surveyOf (c .before .before .before .args .tag .now)
 left-rightly c =
     let t : List ℕ = c .before .before .before .args .tag .now in
