@@ -105,7 +105,7 @@ pub record MarkedItem (f : List ℕ) : Type 0 where
 abbrev pub ItemSays : List ℕ → ItemField → Type 0
 ItemSays f (item.Text n) = TextItem f n
 ItemSays f item.Marked = MarkedItem f
-ItemSays f item.Bad = goodItem (strip f) ≡ false
+ItemSays f (item.Refused k) = (k ≡ 6) × (goodItem (strip f) ≡ false)
 
 pub item-says : (f : List ℕ) {r : ItemField} → r ≡ itemForm f → ItemSays f r
 unfolding itemForm goodItem
@@ -114,11 +114,11 @@ item-says f e = subst (ItemSays f) (sym e) (go (marked t) refl (text t) refl)
     t : List ℕ
     t = strip f
 
-    go : (m : Bool) → marked t ≡ m → (x : Bool) → text t ≡ x → ItemSays f (if m then item.Marked else if x then item.Text (length t) else item.Bad)
+    go : (m : Bool) → marked t ≡ m → (x : Bool) → text t ≡ x → ItemSays f (if m then item.Marked else if x then item.Text (length t) else item.Refused 6)
     go true hm x hx = record { good = or-r (text t) (marked t) hm; marks = hm }
     go false hm true hx =
         record { good = or-l (text t) (marked t) hx; unmarked = hm; is = strip-take f; inside = front-within t f (strip-take f) }
-    go false hm false hx = or-f hx hm
+    go false hm false hx = (refl, or-f hx hm)
 
 -- ---- the owner field
 
@@ -157,7 +157,7 @@ OwnerSays f owner.Nothing = NoOwner f
 OwnerSays f owner.Marked = MarkedOwner f
 OwnerSays f (owner.Alternative n) = AlternativeOwner f n
 OwnerSays f (owner.Isil p u) = IsilOwner f p u
-OwnerSays f owner.Bad = goodOwner (strip f) ≡ false
+OwnerSays f (owner.Refused k) = (k ≡ 6) × (goodOwner (strip f) ≡ false)
 
 -- what begins with a capital is neither an alternative owner nor the marker
 capital-first : (p r : List ℕ) → 1 ≤ length p → all capital p ≡ true → (alternate (p ++ r) ≡ false) × (marked (p ++ r) ≡ false)
@@ -261,15 +261,15 @@ owner-says f e =
         → OwnerSays f
         (if x then owner.Nothing else
         if m then owner.Marked else
-        if l then (if a then owner.Alternative (length rest) else owner.Bad) else
+        if l then (if a then owner.Alternative (length rest) else owner.Refused 6) else
         if i then owner.Isil (length (prefixIn t)) (length rest) else
-        owner.Bad)
+        owner.Refused 6)
     go true hx m hm l hl a ha i hi = no-owner f hx
     go false hx true hm l hl a ha i hi = marked-owner f hm
     go false hx false hm true hl true ha i hi = alternative-owner f hx hm hl ha
-    go false hx false hm true hl false ha i hi = judged-owner f hx hm ∙ rw hl ha
+    go false hx false hm true hl false ha i hi = (refl, judged-owner f hx hm ∙ rw hl ha)
     go false hx false hm false hl a ha true hi = isil-owner f hx hm hl hi
-    go false hx false hm false hl a ha false hi = judged-owner f hx hm ∙ rw hl hi
+    go false hx false hm false hl a ha false hi = (refl, judged-owner f hx hm ∙ rw hl hi)
 
 -- ---- block 1
 
@@ -290,7 +290,7 @@ pub record GoodLibrary (b : List ℕ) (r : LibraryParts) : Type 0 where
 -- what each case says of the block
 abbrev pub LibrarySays : List ℕ → LibraryField → Type 0
 LibrarySays b (library.Good r) = GoodLibrary b r
-LibrarySays b library.Bad = goodLibrary b ≡ false
+LibrarySays b (library.Refused k) = (k ≡ 6) × (goodLibrary b ≡ false)
 
 module _ (b : List ℕ) where
   payload-is : Front (payload b) (drop 4 b)
@@ -350,6 +350,6 @@ pub library-says : (b : List ℕ) {r : LibraryField} → r ≡ libraryForm b →
 unfolding libraryForm
 library-says b e = subst (LibrarySays b) (sym e) (go (goodLibrary b) refl)
   where
-    go : (g : Bool) → goodLibrary b ≡ g → LibrarySays b (if g then library.Good (partsOf b) else library.Bad)
+    go : (g : Bool) → goodLibrary b ≡ g → LibrarySays b (if g then library.Good (partsOf b) else library.Refused 6)
     go true h = good-library b h
-    go false h = h
+    go false h = (refl, h)

@@ -7,21 +7,21 @@ ghost use Rattle.format.specs.Bytes.{isEmpty, all, between, strip, upTo, past};
 ghost use Rattle.format.specs.Fields.{text, capital, unitByte, isilOf, isil, alternative, isOwner, marked, prefixIn};
 ghost use Rattle.fields.specs.Forms.{itemForm, ownerForm, libraryForm};
 
-// What an item field of the basic block holds: text of a length (0: nothing), the marker 01, or what breaks its form.
+// What an item field of the basic block holds: text of a length (0: nothing), or the marker 01; or refusal 6, it breaks its form.
 pub enum ItemField {
     Text(usize),
     Marked,
-    Bad,
+    Refused(u32),
 }
 
 // What an owner field of the basic block holds: nothing, the marker, an alternative owner of a length from the third byte on,
-// an ISIL of a prefix and a unit of these lengths, or what breaks its form.
+// or an ISIL of a prefix and a unit of these lengths; or refusal 6, it breaks its form.
 pub enum OwnerField {
     Nothing,
     Marked,
     Alternative(usize),
     Isil { prefix: usize, unit: usize },
-    Bad,
+    Refused(u32),
 }
 
 // Block 1's fields: the media and usage bytes, 00 where missing, and the lengths of the item and owner fields, 0 where missing.
@@ -32,10 +32,10 @@ pub struct LibraryParts {
     pub usage: u8,
 }
 
-// What block 1 holds: its fields, or one that breaks its form.
+// What block 1 holds: its fields; or refusal 6, one breaks its form.
 pub enum LibraryField {
     Good(LibraryParts),
-    Bad,
+    Refused(u32),
 }
 
 // Is b one of the bytes from low to high?
@@ -247,7 +247,7 @@ pub fn item_in(field: &[u8]) -> ItemField
     if text(item) {
         return ItemField::Text(item.len());
     }
-    ItemField::Bad
+    ItemField::Refused(6)
 }
 
 // The prefix of an ISIL in an owner field: one capital before a blank, or two capitals.
@@ -276,7 +276,7 @@ pub fn owner_in(field: &[u8]) -> OwnerField
         if alternative(said) {
             return OwnerField::Alternative(said.len());
         }
-        return OwnerField::Bad;
+        return OwnerField::Refused(6);
     }
     let prefix = prefix_in(owner);
     if isil_of(prefix, said) {
@@ -285,7 +285,7 @@ pub fn owner_in(field: &[u8]) -> OwnerField
             unit: said.len(),
         };
     }
-    OwnerField::Bad
+    OwnerField::Refused(6)
 }
 
 // Does an owner in block 1 stand: none, an alternative owner where it begins 02 or 03, else an ISIL?
@@ -312,13 +312,13 @@ pub fn library_in(block: &[u8]) -> LibraryField
     let owner = up_to(behind_item, 0);
     let last = past(behind_item, 0);
     if 1 < last.len() {
-        return LibraryField::Bad;
+        return LibraryField::Refused(6);
     }
     if !text(item) {
-        return LibraryField::Bad;
+        return LibraryField::Refused(6);
     }
     if !owner_stands(owner) {
-        return LibraryField::Bad;
+        return LibraryField::Refused(6);
     }
     LibraryField::Good(LibraryParts {
         media: byte_at(payload, 0),

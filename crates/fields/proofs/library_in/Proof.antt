@@ -11,7 +11,7 @@ use Rattle.format.specs.Bytes.{if_then_else_, isEmpty, strip, upTo, past}
 use Rattle.format.specs.Fields.{text, isOwner}
 use Rattle.format.specs.Chain.{payload, lastField, libraryIn, goodLibrary}
 use Rattle.fields.specs.declared.LibraryField.{LibraryField}
-use Rattle.fields.specs.declared.LibraryField.the-variants.{Good, Bad}
+use Rattle.fields.specs.declared.LibraryField.the-variants.{Good, Refused}
 use Rattle.fields.specs.Forms.{partsOf, libraryForm}
 use Rattle.fields.proofs.library_in.Statement.{statement}
 use Rattle.fields.proofs.library_in.Tie as tie
@@ -21,7 +21,7 @@ abbrev formBy : List ℕ → List ℕ → List ℕ → List ℕ → LibraryField
 formBy p item owner last =
     if leb (length last) 1 && text item && (isEmpty owner || isOwner owner)
     then Good (record { media = getD p 0 0; item = length item; owner = length owner; usage = getD last 0 0 })
-    else Bad
+    else Refused 6
 
 by-parts : (b : List ℕ) {tail p fields item more owner last : List ℕ} → tail ≡ drop 4 b → p ≡ strip tail → fields ≡ drop 1 p
     → item ≡ upTo 0 fields → more ≡ past 0 fields → owner ≡ upTo 0 more → last ≡ past 0 more → libraryForm b ≡ formBy p item owner last
@@ -29,7 +29,7 @@ unfolding libraryForm partsOf goodLibrary libraryIn lastField payload
 by-parts b t p f i m o l = rw (l, o, m, i, f, p, t)
 
 stands : {a b c : Bool} {m n m′ n′ i o : ℕ} → a ≡ true → b ≡ true → c ≡ true → m ≡ m′ → n ≡ n′
-    → (if a && b && c then Good (record { media = m′; item = i; owner = o; usage = n′ }) else Bad)
+    → (if a && b && c then Good (record { media = m′; item = i; owner = o; usage = n′ }) else Refused 6)
     ≡ Good (record { media = m; item = i; owner = o; usage = n })
 stands a b c m n = rw (a, b, c, m, n)
 

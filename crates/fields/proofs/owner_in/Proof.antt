@@ -9,7 +9,7 @@ use lib.ListN.{length}
 use Rattle.format.specs.Bytes.{if_then_else_}
 use Rattle.format.specs.Fields.{alternative, prefixIn, isilOf}
 use Rattle.fields.specs.declared.OwnerField.{OwnerField}
-use Rattle.fields.specs.declared.OwnerField.the-variants.{Alternative, Isil, Bad}
+use Rattle.fields.specs.declared.OwnerField.the-variants.{Alternative, Isil, Refused}
 use Rattle.fields.specs.Forms.{ownerForm}
 use Rattle.format.proofs.Strings.{is-empty, not-empty}
 use Rattle.fields.proofs.owner_in.Statement.{statement}
@@ -41,9 +41,9 @@ byte-at-requires c κs = search needs
 -- the form by the third byte, t being what the field holds and s what stands from that byte on
 formBy : ℕ → List ℕ → List ℕ → OwnerField
 formBy third t s =
-    if leb third 3 then (if alternative s then Alternative (length s) else Bad) else
+    if leb third 3 then (if alternative s then Alternative (length s) else Refused 6) else
     if isilOf (prefixIn t) s then Isil (length (prefixIn t)) (length s) else
-    Bad
+    Refused 6
 
 third-decides : (c : tie.After-byte-at)
     → let s = c .before .before .before in
