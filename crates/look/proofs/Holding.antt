@@ -14,7 +14,7 @@ use Rattle.format.specs.declared.Part.{Part}
 use Rattle.format.specs.Bytes.{if_then_else_, isEmpty, part}
 use Rattle.format.specs.Slices.{Held}
 use Rattle.format.proofs.Strings.{empty-length}
-use Rattle.look.specs.Looking.{partFrom}
+use Rattle.look.specs.Places.{partFrom}
 
 -- ---- a part of a part
 

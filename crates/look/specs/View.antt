@@ -6,7 +6,7 @@ use mathlib.Core.Bool.{true}
 use lib.ListN.{length}
 use lib.Dec.{eqb}
 use Rattle.format.specs.declared.Part.{Part}
-use Rattle.format.specs.Answers.{got, refused, plain, Step, inOrder, need}
+use Rattle.format.specs.Answers.{Answer, got, refused, plain, Step, inOrder, need}
 use Rattle.format.specs.Bytes.{if_then_else_, part, joined}
 use Rattle.format.specs.Pages.{pageSize, goodSize}
 use Rattle.format.specs.Fields.{hyphen}
@@ -17,6 +17,7 @@ use Rattle.format.specs.Slices.{Held}
 use Rattle.look.specs.declared.View.{View}
 use Rattle.look.specs.declared.Look.{Look}
 use Rattle.look.specs.declared.Look.the-variants.{Seen, Refused}
+use Rattle.look.specs.Places.{viewIn}
 
 -- the ISIL that stands so: the part, behind that many bytes from byte 21 and a hyphen where there is a prefix
 abbrev pub isilAt : List ℕ → ℕ → Part → List ℕ
@@ -59,7 +60,11 @@ lookSteps t = need 1 (goodSize pageSize (length t)) ∷ tagSteps t
 abbrev pub judged : List ℕ → Step
 judged t = inOrder (lookSteps t) tt
 
--- they are passed and v tells what the tag holds; or the first of them that refuses gives k
-pub data Looked (t : List ℕ) : Look → Type 0 where
-  seen : {v : View} → judged t ≡ got tt → Viewed t v → Looked t (Seen v)
-  refuses : {k : ℕ} → judged t ≡ refused (plain k) → Looked t (Refused k)
+-- the paper's number and values for each case
+abbrev pub lookGiven : Look → Answer View
+lookGiven (Seen v) = got v
+lookGiven (Refused k) = refused (plain k)
+
+-- what looking at a tag answers: 1, 3, 4, 5, 6 and 7 in order, or what it holds and where
+unfoldable pub looking : List ℕ → Answer View
+looking t = inOrder (lookSteps t) (viewIn t)

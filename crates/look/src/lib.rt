@@ -3,23 +3,24 @@ use fields::ItemField;
 use fields::LibraryField;
 use fields::OwnerField;
 use format::Part;
+use format::Stage;
 ghost use mathlib.Core.Path.{_≡_};
-ghost use mathlib.Core.Bool.{true};
 ghost use Prim.Native.Nat.{_+_, _≤_};
 ghost use mathlib.Core.List.{[], _∷_, _++_};
-ghost use lib.Dec.{eqb};
 ghost use lib.ListN.{length};
+ghost use Rattle.format.specs.Answers.{need};
+ghost use Rattle.format.specs.Numbers.{stageGiven, numberOf};
 ghost use Rattle.format.specs.Bytes.{if_then_else_, same, le16, part};
 ghost use Rattle.format.specs.Pieces.{stored};
 ghost use Rattle.format.specs.Crc.{crc, covered};
-ghost use Rattle.format.specs.Fields.{hyphen, alternate};
-ghost use Rattle.format.specs.Chain.{libraryBlock};
-ghost use Rattle.format.specs.Elements.{el};
+ghost use Rattle.format.specs.Fields.{hyphen, alternate, goodItem, goodOwner};
+ghost use Rattle.format.specs.Chain.{libraryBlock, goodLibrary};
 ghost use Rattle.format.specs.Slices.{Held};
-ghost use Rattle.format.specs.Reading.{blocksIn, agree, ownerOn, contentIn};
+ghost use Rattle.format.specs.Reading.{itemIn, ownerIn, blocksIn, goodFields, agree};
 ghost use Rattle.fields.specs.Forms.{ownerForm};
-ghost use Rattle.look.specs.View.{isilAt, IsilLies, Viewed, Looked};
-ghost use Rattle.look.specs.Looking.{Sized, lookNumber, BasicSays, basicNumber, partFrom, ItemSays, OwnerHeld, OwnerStands, OwnerSays, LibraryStands, LibrarySays, FieldsStand, FieldsSay, Counted, Pieced, pieceBy};
+ghost use Rattle.look.specs.Places.{partFrom, mediaLength, itemPlaceIn, ownerPlaceIn, libraryPlaceAt, placesIn, ownerBy, usageBy, pieceBy, viewBy};
+ghost use Rattle.look.specs.View.{isilAt, IsilLies, lookGiven, looking};
+ghost use Rattle.look.specs.Looking.{Sized, basicJudged, foundIf, itemGiven, ownerGiven, libraryGiven, fieldsGiven, FieldsStand};
 
 // What a readable tag holds and where: parts of the tag that are elements in sheet form, none where a part has no bytes. The owner's
 // ISIL, where `prefix` is not 0, is that many bytes from byte 21, a hyphen, and the part `isil`; else the part alone. There are `count`
@@ -47,22 +48,16 @@ pub enum Look {
 
 // ---- looking at a tag
 
-// What the first stages find, size, content parameter and CRC: they are right, or the number of the refusal.
-enum Basic {
-    Right,
-    Refused(u32),
-}
-
 // What the item field holds: the marker, or else the item, in the part.
 struct ItemPlace {
     marked: bool,
     item: Part,
 }
 
-// The item field is good, or breaks its form.
+// The item field is good, or the number of the refusal.
 enum ItemFound {
     Good(ItemPlace),
-    Bad,
+    Refused(u32),
 }
 
 // What the owner field holds: the marker, or else an owner that stands so as in a `View`, or none.
@@ -73,10 +68,10 @@ struct OwnerPlace {
     other: Part,
 }
 
-// The owner field is good, or breaks its form.
+// The owner field is good, or the number of the refusal.
 enum OwnerFound {
     Good(OwnerPlace),
-    Bad,
+    Refused(u32),
 }
 
 // Where block 1 has its media byte, item and owner; and its usage byte, 0 for none.
@@ -87,16 +82,16 @@ struct LibraryPlace {
     usage: u8,
 }
 
-// Block 1's fields are good, or one breaks its form.
+// Block 1's fields are good, or the number of the refusal.
 enum LibraryFound {
     Good(LibraryPlace),
-    Bad,
+    Refused(u32),
 }
 
-// All fields are good, or one breaks its form.
+// All fields are good, or the number of the refusal.
 enum FieldsFound {
     Good(ItemPlace, OwnerPlace, LibraryPlace),
-    Bad,
+    Refused(u32),
 }
 
 // Do bytes 19 and 20 hold the CRC, low byte first?
@@ -112,19 +107,19 @@ fn checked(tag: &[u8]) -> bool
 }
 
 // The refusals 1, 3 and 4.
-fn basic_of(tag: &[u8]) -> Basic
-    ensures { λ r. ⌜ BasicSays (now (tag .entry)) r ⌝ }
+fn basic_of(tag: &[u8]) -> Stage
+    ensures { λ r. ⌜ stageGiven r ≡ basicJudged (now (tag .entry)) ⌝ }
 {
     if !pages::good_size(tag.len()) {
-        return Basic::Refused(1);
+        return Stage::Refused(1);
     }
     if tag[0] % 16 != 1 {
-        return Basic::Refused(3);
+        return Stage::Refused(3);
     }
     if !checked(tag) {
-        return Basic::Refused(4);
+        return Stage::Refused(4);
     }
-    Basic::Right
+    Stage::Passed
 }
 
 // The part of `len` bytes from `at`. One of no bytes begins at 0, so that it lies inside any tag.
@@ -140,7 +135,7 @@ fn part_of(at: usize, len: usize) -> Part
 // Where the item field, bytes 3 to 18, has its item.
 fn find_item(tag: &[u8]) -> ItemFound
     requires { ⌜ Sized (now tag) ⌝ }
-    ensures { λ r. ⌜ ItemSays (now (tag .entry)) r ⌝ }
+    ensures { λ r. ⌜ itemGiven r ≡ foundIf (goodItem (itemIn (now (tag .entry)))) (itemPlaceIn (now (tag .entry))) ⌝ }
 {
     let field = fields::item_in(&tag[3..19]);
     match field {
@@ -155,7 +150,7 @@ fn find_item(tag: &[u8]) -> ItemFound
             let item = part_of(0, 0);
             ItemFound::Good(ItemPlace { marked: true, item })
         }
-        ItemField::Bad => ItemFound::Bad,
+        ItemField::Refused(k) => ItemFound::Refused(k),
     }
 }
 
@@ -174,7 +169,7 @@ fn owner_field(tag: &[u8]) -> OwnerField
 // Where the owner field has its owner: from its third byte on, and an ISIL's prefix in front.
 fn find_owner(tag: &[u8]) -> OwnerFound
     requires { ⌜ Sized (now tag) ⌝ }
-    ensures { λ r. ⌜ OwnerSays (now (tag .entry)) r ⌝ }
+    ensures { λ r. ⌜ ownerGiven r ≡ foundIf (goodOwner (ownerIn (now (tag .entry)))) (ownerPlaceIn (now (tag .entry))) ⌝ }
 {
     let none = part_of(0, 0);
     let field = owner_field(tag);
@@ -209,13 +204,13 @@ fn find_owner(tag: &[u8]) -> OwnerFound
                 other: none,
             })
         }
-        OwnerField::Bad => OwnerFound::Bad,
+        OwnerField::Refused(k) => OwnerFound::Refused(k),
     }
 }
 
 // The length of element 19: a media byte 00 is none.
 fn media_length(media: u8) -> usize
-    ensures { λ r. ⌜ r ≡ (if eqb media 0 then 0 else 1) ⌝ }
+    ensures { λ r. ⌜ r ≡ mediaLength media ⌝ }
 {
     if media == 0 { 0 } else { 1 }
 }
@@ -223,58 +218,107 @@ fn media_length(media: u8) -> usize
 // Where block 1 has its fields: the media byte is its byte 4, the item begins at byte 5, and the owner behind the 00 that follows it.
 fn find_library(tag: &[u8], block: Part) -> LibraryFound
     requires { ⌜ Sized (now tag) × Held (now tag) block (libraryBlock (blocksIn (now tag))) ⌝ }
-    ensures { λ r. ⌜ LibrarySays (now (tag .entry)) r ⌝ }
+    ensures { λ r. ⌜ libraryGiven r ≡ foundIf (goodLibrary (libraryBlock (blocksIn (now (tag .entry))))) (libraryPlaceAt (block .at) (now (tag .entry))) ⌝ }
 {
     let at = block.at;
     let end = at + block.len;
-    let LibraryField::Good(found) = fields::library_in(&tag[at..end]) else {
-        return LibraryFound::Bad;
-    };
-    let media = part_of(at + 4, media_length(found.media));
-    let item = part_of(at + 5, found.item);
-    let owner = part_of(at + 6 + found.item, found.owner);
-    LibraryFound::Good(LibraryPlace {
-        media,
-        item,
-        owner,
-        usage: found.usage,
-    })
+    let field = fields::library_in(&tag[at..end]);
+    match field {
+        LibraryField::Good(found) => {
+            let media = part_of(at + 4, media_length(found.media));
+            let item = part_of(at + 5, found.item);
+            let owner = part_of(at + 6 + found.item, found.owner);
+            LibraryFound::Good(LibraryPlace {
+                media,
+                item,
+                owner,
+                usage: found.usage,
+            })
+        }
+        LibraryField::Refused(k) => LibraryFound::Refused(k),
+    }
+}
+
+// The number of the item field's refusal, 0 for none.
+fn item_number(found: ItemFound) -> u32
+    ensures { λ r. ⌜ r ≡ numberOf (itemGiven found) ⌝ }
+{
+    match found {
+        ItemFound::Good(_) => 0,
+        ItemFound::Refused(k) => k,
+    }
+}
+
+// Of the owner field's.
+fn owner_number(found: OwnerFound) -> u32
+    ensures { λ r. ⌜ r ≡ numberOf (ownerGiven found) ⌝ }
+{
+    match found {
+        OwnerFound::Good(_) => 0,
+        OwnerFound::Refused(k) => k,
+    }
+}
+
+// Of block 1's.
+fn library_number(found: LibraryFound) -> u32
+    ensures { λ r. ⌜ r ≡ numberOf (libraryGiven found) ⌝ }
+{
+    match found {
+        LibraryFound::Good(_) => 0,
+        LibraryFound::Refused(k) => k,
+    }
+}
+
+// Of the fields' together.
+fn fields_number(found: FieldsFound) -> u32
+    ensures { λ r. ⌜ r ≡ numberOf (fieldsGiven found) ⌝ }
+{
+    match found {
+        FieldsFound::Good(_, _, _) => 0,
+        FieldsFound::Refused(k) => k,
+    }
 }
 
 // Refusal 6: is the ordinal above the parts, or does a field break its form? Else where the fields have their elements.
 fn find_fields(tag: &[u8], block: Part) -> FieldsFound
     requires { ⌜ Sized (now tag) × Held (now tag) block (libraryBlock (blocksIn (now tag))) ⌝ }
-    ensures { λ r. ⌜ FieldsSay (now (tag .entry)) r ⌝ }
+    ensures { λ r. ⌜ fieldsGiven r ≡ foundIf (goodFields (now (tag .entry))) (placesIn (block .at) (now (tag .entry))) ⌝ }
 {
     if tag[1] < tag[2] {
-        return FieldsFound::Bad;
+        return FieldsFound::Refused(6);
     }
-    let ItemFound::Good(item) = find_item(tag) else {
-        return FieldsFound::Bad;
+    let found_item = find_item(tag);
+    let ItemFound::Good(item) = found_item else {
+        return FieldsFound::Refused(item_number(found_item));
     };
-    let OwnerFound::Good(owner) = find_owner(tag) else {
-        return FieldsFound::Bad;
+    let found_owner = find_owner(tag);
+    let OwnerFound::Good(owner) = found_owner else {
+        return FieldsFound::Refused(owner_number(found_owner));
     };
-    let LibraryFound::Good(library) = find_library(tag, block) else {
-        return FieldsFound::Bad;
+    let found_library = find_library(tag, block);
+    let LibraryFound::Good(library) = found_library else {
+        return FieldsFound::Refused(library_number(found_library));
     };
     FieldsFound::Good(item, owner, library)
 }
 
 // Refusal 7: a marked item is present, an owner in block 1 stands exactly with the marker, a nonzero usage byte agrees with byte 0.
-fn agrees(tag: &[u8], item: ItemPlace, owner: OwnerPlace, library: LibraryPlace) -> bool
+fn agree_stage(tag: &[u8], item: ItemPlace, owner: OwnerPlace, library: LibraryPlace) -> Stage
     requires { ⌜ FieldsStand (now tag) item owner library ⌝ }
-    ensures { λ r. ⌜ r ≡ agree (now (tag .entry)) ⌝ }
+    ensures { λ r. ⌜ stageGiven r ≡ need 7 (agree (now (tag .entry))) ⌝ }
 {
     let block_item = library.item;
     let block_owner = library.owner;
     if item.marked && block_item.len == 0 {
-        return false;
+        return Stage::Refused(7);
     }
     if owner.marked != (block_owner.len != 0) {
-        return false;
+        return Stage::Refused(7);
     }
-    library.usage == 0 || library.usage / 16 == tag[0] / 16
+    if library.usage != 0 && library.usage / 16 != tag[0] / 16 {
+        return Stage::Refused(7);
+    }
+    Stage::Passed
 }
 
 // Does this byte, 02 or 03, begin an alternative owner?
@@ -286,8 +330,8 @@ fn begins_other(first: u8) -> bool
 
 // Where the owner stands: in block 1 if that has one, else as the owner field says.
 fn owner_of(tag: &[u8], owner: OwnerPlace, library: LibraryPlace) -> OwnerPlace
-    requires { ⌜ Sized (now tag) × OwnerStands (now tag) owner × LibraryStands (now tag) library × (agree (now tag) ≡ true) ⌝ }
-    ensures { λ r. ⌜ OwnerHeld (now (tag .entry)) r (ownerOn (now (tag .entry))) ⌝ }
+    requires { ⌜ library .owner .at + library .owner .len ≤ length (now tag) ⌝ }
+    ensures { λ r. ⌜ r ≡ ownerBy (now (tag .entry)) owner library ⌝ }
 {
     let found = library.owner;
     if found.len == 0 {
@@ -321,8 +365,8 @@ fn either(test: bool, yes: Part, no: Part) -> Part
 
 // Element 5: block 1's usage byte, or else the main qualifier of byte 0.
 fn usage_of(tag: &[u8], library: LibraryPlace) -> u8
-    requires { ⌜ Sized (now tag) × LibraryStands (now tag) library ⌝ }
-    ensures { λ r. ⌜ r ∷ [] ≡ el (contentIn (now (tag .entry))) 5 ⌝ }
+    requires { ⌜ 1 ≤ length (now tag) ⌝ }
+    ensures { λ r. ⌜ r ≡ usageBy (now (tag .entry)) library ⌝ }
 {
     if library.usage == 0 {
         tag[0] / 16 * 16
@@ -341,8 +385,8 @@ fn view_of(
     size: usize,
     blocks: Part,
 ) -> View
-    requires { ⌜ FieldsStand (now tag) item owner library × (agree (now tag) ≡ true) × Counted (now tag) count size × Pieced (now tag) size blocks ⌝ }
-    ensures { λ r. ⌜ Viewed (now (tag .entry)) r ⌝ }
+    requires { ⌜ FieldsStand (now tag) item owner library ⌝ }
+    ensures { λ r. ⌜ r ≡ viewBy (now (tag .entry)) item owner library count size blocks ⌝ }
 {
     let here = item.item;
     let block = library.item;
@@ -385,51 +429,44 @@ fn one_piece(library: usize, length: usize, size: usize, end: usize) -> Part
     part_of(34 + length, size)
 }
 
-// The number of a refusal, 0 for none.
-fn basic_number(b: Basic) -> u32
-    ensures { λ r. ⌜ r ≡ basicNumber b ⌝ }
-{
-    match b {
-        Basic::Right => 0,
-        Basic::Refused(k) => k,
-    }
-}
-
 // Looks at a tag: the refusals 1, 3, 4, 5, 6 and 7 in order, or what it holds and where.
 pub fn look_at(tag: &[u8]) -> Look
-    ensures { λ r. ⌜ Looked (now (tag .entry)) r ⌝ }
+    ensures { λ r. ⌜ lookGiven r ≡ looking (now (tag .entry)) ⌝ }
 {
     let basic = basic_of(tag);
-    let Basic::Right = basic else {
-        return Look::Refused(basic_number(basic));
+    let Stage::Passed = basic else {
+        return Look::Refused(format::stage_number(basic));
     };
+    let survey = chain::survey_of(tag);
     let Survey::Whole {
         library,
         length,
         count,
         size,
         end,
-    } = chain::survey_of(tag)
+    } = survey
     else {
-        return Look::Refused(5);
+        return Look::Refused(chain::survey_number(survey));
     };
     let block = Part {
         at: library,
         len: length,
     };
-    let FieldsFound::Good(item, owner, fields) = find_fields(tag, block) else {
-        return Look::Refused(6);
+    let found = find_fields(tag, block);
+    let FieldsFound::Good(item, owner, fields) = found else {
+        return Look::Refused(fields_number(found));
     };
-    if !agrees(tag, item, owner, fields) {
-        return Look::Refused(7);
-    }
+    let agreed = agree_stage(tag, item, owner, fields);
+    let Stage::Passed = agreed else {
+        return Look::Refused(format::stage_number(agreed));
+    };
     let blocks = one_piece(library, length, size, end);
     Look::Seen(view_of(tag, item, owner, fields, count, size, blocks))
 }
 
 // The number of a refusal that looking gave, 0 for none.
 pub fn look_number(l: Look) -> u32
-    ensures { λ r. ⌜ r ≡ lookNumber l ⌝ }
+    ensures { λ r. ⌜ r ≡ numberOf (lookGiven l) ⌝ }
 {
     match l {
         Look::Seen(_) => 0,

@@ -7,7 +7,7 @@ use lib.Dec.{eqb}
 use borrow.Author.Needs.{needs}
 use borrow.Author.Tests.{eq-eqb, ne-eqb}
 use Rattle.format.proofs.Tests.{and-no}
-use Rattle.look.specs.Looking.{partFrom, pieceBy}
+use Rattle.look.specs.Places.{partFrom, pieceBy}
 use Rattle.look.proofs.one_piece.Statement.{statement}
 use Rattle.look.proofs.one_piece.Tie as tie
 

@@ -1,14 +1,14 @@
--- `look::owner_of`: the owner in block 1, or else in the owner field, which then holds no marker.
+-- `look::owner_of`: the tests are the definition's.
 use mathlib.Core.Path.{sym, _∙_}
 use borrow.Author.Needs.{needs}
-use Rattle.look.proofs.Looking.{owner-in-field, other-in-block, isil-in-block}
+use borrow.Author.Tests.{eq-eqb, ne-eqb}
+use Rattle.look.specs.Places.{ownerBy}
 use Rattle.look.proofs.owner_of.Statement.{statement}
 use Rattle.look.proofs.owner_of.Tie as tie
 
 returns : tie.Need-returns
-returns c =
-    let s = c .before .before .before .before in
-    owner-in-field (s .args .tag .now) _ (s .pre .2) _ (s .pre .1) (s .pre .3) (c .if1 .taken)
+unfolding ownerBy
+returns c = rw (eq-eqb _ 0 (c .if1 .taken))
 
 part-of-requires : tie.Need-part-of-requires
 part-of-requires c κs = search needs
@@ -20,14 +20,14 @@ begins-other-requires : tie.Need-begins-other-requires
 begins-other-requires c κs = search needs
 
 returns-2 : tie.Need-returns-2
+unfolding ownerBy
 returns-2 c =
-    let s = c .before .before .before .before .before .before .before .before in
-    rw (c .before .before .before .part-of .ensures) (other-in-block (s .args .tag .now) _ (s .pre .2) (s .pre .0) (c .before .before .before .before .if1 .left) (sym (c .before .begins-other .ensures) ∙ c .if2 .taken))
+    rw (c .before .before .before .part-of .ensures, ne-eqb _ 0 (c .before .before .before .before .if1 .left), sym (c .before .begins-other .ensures) ∙ c .if2 .taken)
 
 returns-3 : tie.Need-returns-3
+unfolding ownerBy
 returns-3 c =
-    let s = c .before .before .before .before .before .before .before .before in
-    rw (c .before .before .before .part-of .ensures) (isil-in-block (s .args .tag .now) _ (s .pre .2) (s .pre .0) (c .before .before .before .before .if1 .left) (sym (c .before .begins-other .ensures) ∙ c .if2 .left))
+    rw (c .before .before .before .part-of .ensures, ne-eqb _ 0 (c .before .before .before .before .if1 .left), sym (c .before .begins-other .ensures) ∙ c .if2 .left)
 
 pub owner-of-spec : {M : Type 1} → statement M
 owner-of-spec =

@@ -2,7 +2,7 @@
 use mathlib.Core.Path.{sym, ap}
 use Prim.Native.Nat.{ℕ}
 use borrow.Author.Tests.{eq-eqb, ne-eqb}
-use Rattle.look.specs.Looking.{partFrom}
+use Rattle.look.specs.Places.{partFrom}
 use Rattle.look.proofs.part_of.Statement.{statement}
 use Rattle.look.proofs.part_of.Tie as tie
 

@@ -1,6 +1,6 @@
--- `look::view_of`: every part of the view is a stage's answer.
+-- `look::view_of`: every part of the view is what the definition takes.
 use borrow.Author.Needs.{needs}
-use Rattle.look.proofs.Looking.{viewed}
+use Rattle.look.specs.Places.{viewBy}
 use Rattle.look.proofs.view_of.Statement.{statement}
 use Rattle.look.proofs.view_of.Tie as tie
 
@@ -26,10 +26,8 @@ shared-slice-read-t21 : tie.Need-shared-slice-read-t21
 shared-slice-read-t21 c = search needs
 
 returns : tie.Need-returns
-returns c =
-    let s = c .before .before .before .before .before .before .before .before .before .before .before .before .before in
-    rw (c .before .before .before .before .before .before .before .either .ensures, c .before .before .before .before .before .before .either2 .ensures, c .before .before .before .before .before .before .before .before .part-of .ensures)
-    (viewed (s .args .tag .now) _ _ _ (s .pre .0) _ _ _ _ _ (c .before .before .before .before .before .owner-of .ensures) (c .before .before .usage-of .ensures) (s .pre .2) (s .pre .3))
+unfolding viewBy
+returns c = rw (c .before .before .before .before .before .before .before .either .ensures, c .before .before .before .before .before .before .either2 .ensures, c .before .before .before .before .before .before .before .before .part-of .ensures, c .before .before .before .before .before .owner-of .ensures, c .before .before .usage-of .ensures)
 
 pub view-of-spec : {M : Type 1} → statement M
 view-of-spec =
