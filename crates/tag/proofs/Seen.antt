@@ -1,12 +1,12 @@
 -- What is known of a tag once it has been looked at.
-use mathlib.Core.Path.{_≡_, refl, sym, ap, ap₂, subst, _∙_}
+use mathlib.Core.Path.{_≡_, refl, sym, ap, ap₂, _∙_}
 use Prim.Native.Nat.{ℕ, _+_, _-_, _≤_, _<_}
 use native.Mathlib.Omega.{arith}
 use mathlib.Core.Bool.{true, false}
 use mathlib.Core.List.{List, [], _∷_, _++_, append-nil}
 use lib.ListN.{length, take, drop, length-drop}
 use lib.Seq.{take-all, length-take-le}
-use Rattle.format.specs.Answers.{Refusal, got, refused, plain, Step, inOrder}
+use Rattle.format.specs.Answers.{Refusal, got, refused, Step, inOrder}
 use Rattle.format.specs.Bytes.{bytes, part, joined}
 use Rattle.format.specs.Pages.{pageSize, goodSize}
 use Rattle.format.specs.Elements.{Content, numbers, place, placeIn, el, setBytes, clash, sound}
@@ -19,26 +19,10 @@ use Rattle.format.proofs.Sound.{read-sound}
 use Rattle.format.specs.declared.Part.{Part}
 use Rattle.format.proofs.Layouts.{size-most}
 use Rattle.format.proofs.Strings.{le16-byte}
-use Rattle.look.specs.declared.Look.{Look}
 use Rattle.look.specs.declared.View.{View}
-use Rattle.look.specs.declared.Look.the-variants.{Seen, Refused}
 use Rattle.look.proofs.Holding.{cut, cut-is, held-cut}
-use Rattle.look.specs.View.{isilSeen, Viewed, Looked, seen, refuses, lookSteps, judged}
+use Rattle.look.specs.View.{isilSeen, Viewed, lookSteps, judged}
 use Rattle.render.specs.Rendering.{carriedOn}
-
--- ---- the answer of looking
-
-pub looked-seen : (t : List ℕ) {l : Look} {v : _} → Looked t l → l ≡ Seen v → (judged t ≡ got tt) × Viewed t v
-looked-seen t h e = go (subst (Looked t) e h)
-  where
-    go : {v : _} → Looked t (Seen v) → (judged t ≡ got tt) × Viewed t v
-    go (seen j w) = (j, w)
-
-pub looked-refused : (t : List ℕ) {l : Look} {k : ℕ} → Looked t l → l ≡ Refused k → judged t ≡ refused (plain k)
-looked-refused t h e = go (subst (Looked t) e h)
-  where
-    go : {k : ℕ} → Looked t (Refused k) → judged t ≡ refused (plain k)
-    go (refuses j) = j
 
 -- a call that begins with these steps refuses likewise
 pub steps-refused : {A : Type 0} (t : List ℕ) (ss : List Step) (a : A) (x : Refusal) → judged t ≡ refused x → inOrder (lookSteps t ++ ss) a ≡ refused x

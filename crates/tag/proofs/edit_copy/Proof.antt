@@ -1,7 +1,8 @@
 -- `edit_copy` passes the refusal of looking on, or edits what was seen.
 use mathlib.Core.Path.{ap, _∙_}
-use Rattle.look.specs.Looking.{lookNumber}
-use Rattle.tag.proofs.Seen.{looked-seen, looked-refused}
+use Rattle.format.specs.Numbers.{numberOf}
+use Rattle.look.specs.View.{lookGiven}
+use Rattle.look.proofs.Looking.{looked-seen, looked-refused}
 use Rattle.tag.proofs.Editor.{copy-look-edits}
 use borrow.Author.Needs.{needs}
 use Rattle.tag.proofs.edit_copy.Statement.{statement}
@@ -25,12 +26,12 @@ returns c =
     let a = s .args in
     let told = c .before .enum-told .given .1 in
     copy-look-edits (a .before .now) (a .tag .now) (a .locks .now) (a .number) (a .bytes .now) (a .old .now) _ _ (s .pre)
-    (looked-refused (a .before .now) (c .before .before .before .look-at .ensures) told) (c .look-number .ensures ∙ ap lookNumber told)
+    (looked-refused (a .before .now) _ _ (c .before .before .before .look-at .ensures) told) (c .look-number .ensures ∙ ap (λ l. numberOf (lookGiven l)) told)
 
 edit-view-requires : tie.Need-edit-view-requires
 edit-view-requires c κs =
     let s = c .before .before .before .before .before .before .before .before .before .before .before in
-    let l = looked-seen (s .args .before .now) (c .before .before .before .before .before .look-at .ensures) (c .before .before .before .looked .given .1) in
+    let l = looked-seen (s .args .before .now) _ _ (c .before .before .before .before .before .look-at .ensures) (c .before .before .before .looked .given .1) in
     (s .pre, l .0, l .1)
 
 same-length : tie.Need-same-length

@@ -1,7 +1,8 @@
 -- `read` passes the refusal of looking on, or reads what was seen.
 use mathlib.Core.Path.{ap, _∙_}
-use Rattle.look.specs.Looking.{lookNumber}
-use Rattle.tag.proofs.Seen.{looked-seen, looked-refused}
+use Rattle.format.specs.Numbers.{numberOf}
+use Rattle.look.specs.View.{lookGiven}
+use Rattle.look.proofs.Looking.{looked-seen, looked-refused}
 use Rattle.tag.proofs.Reader.{refused-reads}
 use borrow.Author.Needs.{needs}
 use Rattle.tag.proofs.read.Statement.{statement}
@@ -23,10 +24,10 @@ returns : tie.Need-returns
 returns c =
     let a = c .before .before .before .before .before .before .args in
     let told = c .before .enum-told .given .1 in
-    refused-reads (a .tag .now) (a .sheet .now) _ _ (looked-refused (a .tag .now) (c .before .before .before .look-at .ensures) told) (c .look-number .ensures ∙ ap lookNumber told)
+    refused-reads (a .tag .now) (a .sheet .now) _ _ (looked-refused (a .tag .now) _ _ (c .before .before .before .look-at .ensures) told) (c .look-number .ensures ∙ ap (λ l. numberOf (lookGiven l)) told)
 
 read-view-requires : tie.Need-read-view-requires
-read-view-requires c κs = looked-seen (c .before .before .before .before .before .before .before .args .tag .now) (c .before .before .before .before .look-at .ensures) (c .before .before .looked .given .1)
+read-view-requires c κs = looked-seen (c .before .before .before .before .before .before .before .args .tag .now) _ _ (c .before .before .before .before .look-at .ensures) (c .before .before .looked .given .1)
 
 same-length : tie.Need-same-length
 same-length c = search needs
