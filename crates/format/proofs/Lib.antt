@@ -24,3 +24,4 @@ pub mod Edits
 pub mod Histories
 pub mod Promises
 pub mod Pairs
+pub mod Wrong

@@ -1,4 +1,4 @@
--- The sheet of what a readable tag holds is short, so no offset passes 65,535.
+-- The sheet of what a tag holds, or has room for, is short, so no offset passes 65,535.
 use mathlib.Core.Path.{_≡_, refl, ap}
 use Prim.Native.Nat.{ℕ, suc, _+_, _*_, _≤_}
 use native.Mathlib.Omega.{arith}
@@ -8,15 +8,18 @@ use lib.ListN.{length, length-append}
 use borrow.Author.Tests.{le-leb}
 use Rattle.format.specs.Bytes.{all, bytes, joined}
 use Rattle.format.specs.Pages.{goodSize}
-use Rattle.format.specs.Elements.{Content, numbers, form, value, valuesAt}
+use Rattle.format.specs.Chain.{blockOne}
+use Rattle.format.specs.Elements.{Content, numbers, form, value, valuesAt, sound}
 use Rattle.format.specs.Sheet.{Entry, bodies, bodyAt, sheetOf, offsetsFit, fitting, entriesAt, carriedEntries, entries}
+use Rattle.format.specs.Layout.{library, basic, laidOut}
 use Rattle.format.specs.Reading.{blocksIn, contentIn, Readable}
+use Rattle.format.specs.History.{Own}
 use Rattle.format.proofs.Tests.{never, and-l, and-r, and-i}
 use Rattle.format.proofs.Blocks.{well-facts, carried-facts}
 use Rattle.format.proofs.Sheets.{length-sheet}
 use Rattle.format.proofs.Slots.{sound-parts, form-carriable}
 use Rattle.format.proofs.Values.{value-short}
-use Rattle.format.proofs.Layouts.{size-most}
+use Rattle.format.proofs.Layouts.{size-most, fits-parts}
 use Rattle.format.proofs.Sound.{read-sound}
 use Rattle.format.proofs.Shorter.{others-le, blocks-total}
 
@@ -58,25 +61,48 @@ carried-count (c ∷ cs) h =
     let k = well-facts c (carried-facts c (form-carriable c (and-l (form 255 c) (all (form 255) cs) h)) .0) in
     omega (arith, carried-count cs (and-r (form 255 c) (all (form 255) cs) h), length-append c (joined cs), k .long)
 
-module _ (p : ℕ) (t : List ℕ) (y : bytes t ≡ true) (g : goodSize p (length t) ≡ true) (r : Readable t) where
-  -- the sheet of what a permitted tag gives is short, whatever the page size
-  pub read-short : length (sheetOf (entries (contentIn t))) ≤ 8192
-  unfolding contentIn entries numbers
-  read-short =
-      let c : Content = contentIn t in
-      let k = sound-parts c (read-sound t y r) in
+-- the sheet of elements whose carried blocks have room on a tag is short
+module _ (c : Content) (s : sound c ≡ true) (j : length (joined (c .carried)) ≤ 2048) where
+  pub content-short : length (sheetOf (entries c)) ≤ 8192
+  unfolding entries numbers
+  content-short =
+      let k = sound-parts c s in
       let a : List Entry = entriesAt numbers (c .slots) in
       let b : List Entry = carriedEntries (c .carried) in
       let st = slots-total numbers (c .slots) (k .values) in
       let ct = carried-total (c .carried) in
       total (length (sheetOf (a ++ b))) (length (a ++ b)) (length (bodies (a ++ b))) (length a) (length b) (length (bodies a)) (length (bodies b))
       (length (c .carried)) (length (joined (c .carried)))
-      (length-sheet (a ++ b)) (length-append a b) (bodies-append a b) (st .1) (st .0) (ct .1) (ct .0) (carried-count (c .carried) (k .blocks))
-      (omega (arith, others-le (blocksIn t), blocks-total t r, size-most p (length t) g))
+      (length-sheet (a ++ b)) (length-append a b) (bodies-append a b) (st .1) (st .0) (ct .1) (ct .0) (carried-count (c .carried) (k .blocks)) j
     where
       total : (l n m na nb ma mb nc jc : ℕ) → l ≡ 2 + 4 * n + m → n ≡ na + nb → m ≡ ma + mb → na ≤ 7 → ma ≤ 1785 → nb ≡ nc → mb ≡ jc → 3 * nc ≤ jc → jc ≤ 2048 → l ≤ 8192
       total l n m na nb ma mb nc jc s a b c d e f g h = omega arith
 
   -- so no offset passes 65,535
+  pub content-fitting : fitting (entries c) ≡ true
+  content-fitting = let es : List Entry = entries c in fit-total (bodyAt (length es)) es (omega (arith, content-short, length-sheet es))
+
+-- of what a permitted tag holds, whatever the page size
+module _ (p : ℕ) (t : List ℕ) (y : bytes t ≡ true) (g : goodSize p (length t) ≡ true) (r : Readable t) where
+  read-carried : length (joined (contentIn t .carried)) ≤ 2048
+  unfolding contentIn
+  read-carried = omega (arith, others-le (blocksIn t), blocks-total t r, size-most p (length t) g)
+
+  pub read-short : length (sheetOf (entries (contentIn t))) ≤ 8192
+  read-short = content-short (contentIn t) (read-sound t y r) read-carried
+
   pub read-fitting : fitting (entries (contentIn t)) ≡ true
-  read-fitting = let es : List Entry = entries (contentIn t) in fit-total (bodyAt (length es)) es (omega (arith, read-short, length-sheet es))
+  read-fitting = content-fitting (contentIn t) (read-sound t y r) read-carried
+
+-- of what was laid down on one
+pub own-fitting : (p : ℕ) (c : Content) (t : List ℕ) → goodSize p (length t) ≡ true → Own c t → fitting (entries c) ≡ true
+unfolding laidOut
+own-fitting p c t g o =
+    let n : ℕ = length t in
+    content-fitting c (o .sane) (omega (
+      arith,
+      fits-parts n c (o .fit) .1,
+      length-append (basic n c) (blockOne (library n c) ++ joined (c .carried)),
+      length-append (blockOne (library n c)) (joined (c .carried)),
+      size-most p n g,
+    ))

@@ -82,9 +82,12 @@ count-le f g (suc n) h = go (f n) refl (g n) refl (count-le f g n (λ i k. h i (
     go false e true k l = omega arith
     go false e false k l = l
 
-differs-self : (p : ℕ) (a : List ℕ) (i : ℕ) → differs p a a i ≡ false
+differs-same : (p : ℕ) (a b : List ℕ) (i : ℕ) → part (i * p) p a ≡ part (i * p) p b → differs p a b i ≡ false
 unfolding differs
-differs-self p a i = ap not (same-refl (part (i * p) p a))
+differs-same p a b i e = ap not (ap (λ (x : List ℕ). same x (part (i * p) p b)) e ∙ same-refl (part (i * p) p b))
+
+differs-self : (p : ℕ) (a : List ℕ) (i : ℕ) → differs p a a i ≡ false
+differs-self p a i = differs-same p a a i refl
 
 pub changed-self : (p : ℕ) (a : List ℕ) → changed p a a ≡ 0
 unfolding changed
@@ -104,3 +107,12 @@ changed-open p l a b n e =
     open-of : (x y : Bool) → y ≡ true → x && y ≡ false → not x ≡ true
     open-of true y d z = never (cc)
     open-of false y d z = refl
+
+-- where no locked page differs, none is counted
+pub kept-locked : (p : ℕ) (l a b : List ℕ) → Kept p l a b → lockedChanged p l a b ≡ 0
+unfolding Kept lockedChanged lockedDiffers
+kept-locked p l a b k = zero-count (λ i. locked l i && differs p a b i) (length a / p) (λ i h. go i h (locked l i) refl)
+  where
+    go : (i : ℕ) → i < length a / p → (x : Bool) → locked l i ≡ x → x && differs p a b i ≡ false
+    go i h true e = differs-same p a b i (k i h e)
+    go i h false e = refl

@@ -28,7 +28,7 @@ abbrev refuses : Answer ℕ → ℕ → Bool
 refuses (got n) k = false
 refuses (refused (plain n)) k = eqb n k
 
-abbrev zeros : ℕ → List ℕ
+abbrev pub zeros : ℕ → List ℕ
 zeros n = replicate n 0
 
 -- reading t into just enough room gives the sheet s; writing s onto an open tag of 00 gives t; into one byte less is refused 2
@@ -48,7 +48,7 @@ digits = 0x31 ∷ 0x32 ∷ 0x33 ∷ 0x34 ∷ 0x35 ∷ 0x36 ∷ 0x37 ∷ 0x38 ∷
 setSheet : List ℕ → List ℕ
 setSheet set = 2 ∷ 0 ∷ 4 ∷ 10 ∷ 0 ∷ 4 ∷ 5 ∷ 14 ∷ 0 ∷ 1 ∷ set ++ (0x10 ∷ [])
 
-isilUs : List ℕ
+unfoldable pub isilUs : List ℕ
 isilUs = 0x55 ∷ 0x53 ∷ 0x2D ∷ 0x49 ∷ 0x6E ∷ 0x55 ∷ 0x2D ∷ 0x4D ∷ 0x75 ∷ []
 
 pub pairs : List Bool
@@ -71,20 +71,20 @@ pairs-hold = tt
 
 -- ---- the whole case, and the standard's examples
 
-wholeSheet : List ℕ
+unfoldable pub wholeSheet : List ℕ
 wholeSheet = 3 ∷ 0 ∷ 1 ∷ 0x0E ∷ 0 ∷ 2 ∷ 4 ∷ 0x10 ∷ 0 ∷ 4 ∷ 5 ∷ 0x14 ∷ 0 ∷ 1 ∷ 0x42 ∷ 0x31 ∷ 1 ∷ 0 ∷ 1 ∷ 0 ∷ 0x10 ∷ []
 
-wholeFront : List ℕ
+unfoldable pub wholeFront : List ℕ
 wholeFront = 0x11 ∷ 1 ∷ 1 ∷ 0x42 ∷ 0x31 ∷ zeros 14
 
-wholeTag : List ℕ
+unfoldable pub wholeTag : List ℕ
 wholeTag = wholeFront ++ (le16 (crc (wholeFront ++ zeros 13)) ++ zeros 15)
 
 -- DK-718500, in a sheet and in the owner field
-isilDk : List ℕ
+unfoldable pub isilDk : List ℕ
 isilDk = 0x44 ∷ 0x4B ∷ 0x2D ∷ 0x37 ∷ 0x31 ∷ 0x38 ∷ 0x35 ∷ 0x30 ∷ 0x30 ∷ []
 
-fieldDk : List ℕ
+unfoldable pub fieldDk : List ℕ
 fieldDk = 0x44 ∷ 0x4B ∷ 0x37 ∷ 0x31 ∷ 0x38 ∷ 0x35 ∷ 0x30 ∷ 0x30 ∷ []
 
 -- B.1: 1000000056 of DK-718500, one part, usage 1, on 32 bytes; its CRC is printed as 98 A4
@@ -98,18 +98,18 @@ sheet1 : List ℕ
 sheet1 = 4 ∷ 0 ∷ 1 ∷ 18 ∷ 0 ∷ 10 ∷ 3 ∷ 28 ∷ 0 ∷ 9 ∷ 4 ∷ 37 ∷ 0 ∷ 4 ∷ 5 ∷ 41 ∷ 0 ∷ 1 ∷ item1 ++ (isilDk ++ (1 ∷ 0 ∷ 1 ∷ 0 ∷ 0x10 ∷ []))
 
 -- B.2: 1000000136, a book, with block 1 and an acquisition block, on 76 bytes; its CRC is printed as 36 15
-item2 : List ℕ
+unfoldable pub item2 : List ℕ
 item2 = 0x31 ∷ 0x30 ∷ 0x30 ∷ 0x30 ∷ 0x30 ∷ 0x30 ∷ 0x30 ∷ 0x31 ∷ 0x33 ∷ 0x36 ∷ []
 
-acquisition : List ℕ
+unfoldable pub acquisition : List ℕ
 acquisition =
     0x22 ∷ 2 ∷ 0 ∷ 0x71 ∷ 0x42 ∷ 0x6F ∷ 0x67 ∷ 0x76 ∷ 0x6F ∷ 0x67 ∷ 0x6E ∷ 0x65 ∷ 0x6E ∷ 0 ∷ 0x31 ∷ 0x32 ∷ 0x33 ∷ 0x34 ∷ 0x35 ∷ 0x36 ∷ 0x37 ∷ 0x38 ∷ 0x39 ∷ 0x30 ∷ 0 ∷ 0 ∷
     0x61 ∷ 0x37 ∷ 0x38 ∷ 0x39 ∷ 0x36 ∷ 0x35 ∷ 0x36 ∷ 0x63 ∷ []
 
-tag2 : List ℕ
+unfoldable pub tag2 : List ℕ
 tag2 = 0x11 ∷ 1 ∷ 1 ∷ item2 ++ (zeros 6 ++ (0x36 ∷ 0x15 ∷ fieldDk ++ (zeros 5 ++ (5 ∷ 1 ∷ 0 ∷ 5 ∷ 1 ∷ acquisition ++ zeros 3))))
 
-sheet2 : List ℕ
+unfoldable pub sheet2 : List ℕ
 sheet2 =
     6 ∷ 0 ∷ 1 ∷ 26 ∷ 0 ∷ 10 ∷ 3 ∷ 36 ∷ 0 ∷ 9 ∷ 4 ∷ 45 ∷ 0 ∷ 4 ∷ 5 ∷ 49 ∷ 0 ∷ 1 ∷ 19 ∷ 50 ∷ 0 ∷ 1 ∷ 255 ∷ 51 ∷ 0 ∷ 34 ∷
     item2 ++ (isilDk ++ (1 ∷ 0 ∷ 1 ∷ 0 ∷ 0x10 ∷ 1 ∷ acquisition))

@@ -1,41 +1,46 @@
--- The promises about the three calls, in one place and in the words of the demands. Everything is said of `reading`, `writing` and
--- `editing` (specs/Calls.antt), the very functions that the contracts cite through `Reads`, `Writes` and `Edits` (specs/Numbers.antt).
+-- The promises about the three calls, in one place. What the demands ask is said in specs/Demands.antt of any reader, writer and editor;
+-- here it is shown of `reading`, `writing` and `editing` (specs/Calls.antt), the very functions that the contracts cite through `Reads`,
+-- `Writes` and `Edits` (specs/Numbers.antt).
 use mathlib.Core.Path.{_≡_, refl, sym, ap, ap₂, _∙_}
 use mathlib.Core.Logic.{_⊎_}
 use Prim.Native.Nat.{ℕ, _+_, _≤_, _<_}
 use mathlib.Core.Bool.{true, false, _&&_}
 use mathlib.Core.List.{List}
 use lib.ListN.{length}
+use borrow.Author.Tests.{le-leb}
 use Rattle.format.specs.Answers.{Refusal, plain, got, refused, Step, inOrder, Passed, FirstRefusal}
 use Rattle.format.specs.Bytes.{bytes, filled, joined}
-use Rattle.format.specs.Pages.{goodSize, lockMap, changed, lockedChanged, openPages, Kept}
-use Rattle.format.specs.Elements.{Content, partsOf, ordinalOf, known, el, put, sound}
+use Rattle.format.specs.Pages.{goodSize, lockMap, changed, openPages, Kept}
+use Rattle.format.specs.Elements.{Content, partsOf, ordinalOf, known, el, put, value, sound}
 use Rattle.format.specs.Sheet.{sheetOf, fitting, entriesIn, rightSheet, find, contentOf, goodValues, entries}
 use Rattle.format.specs.Layout.{ownerWidth, laidOut, image, fits}
 use Rattle.format.specs.Reading.{blocksIn, contentIn, Readable}
-use Rattle.format.specs.Calls.{readSteps, reading, sheetContent, writeSteps, writing, ownLayout, editSteps, Edited, editing}
+use Rattle.format.specs.Calls.{sheetIn, readSteps, reading, sheetContent, writeSteps, writing, ownLayout, editSteps, Edited, editing}
 use Rattle.format.specs.Numbers.{readGiven, writeGiven, editGiven, readNumbers, writeNumbers, editNumbers, Each, oneOf, numberOf, Reads, Writes, Edits, ReadsC, WritesC, EditsC}
-use Rattle.format.specs.History.{Own, Edit, State, begin, run, Undone}
+use Rattle.format.specs.History.{Own, State, begin, run}
+use Rattle.format.specs.Demands.{Exact, ReadsExactly, WritesExactly, EditsExactly, ReadsUnchanged, WritesUnchanged, EditsUnchanged, ReadsBack, LaysDown, CountsWritten, CountsEdited, PutsElement, EveryHistory}
 use Rattle.format.specs.declared.ReadAnswer.{ReadAnswer}
 use Rattle.format.specs.declared.ReadAnswer.the-variants as read
 use Rattle.format.specs.declared.WriteAnswer.{WriteAnswer}
 use Rattle.format.specs.declared.WriteAnswer.the-variants as write
 use Rattle.format.specs.declared.EditAnswer.{EditAnswer}
 use Rattle.format.specs.declared.EditAnswer.the-variants as edit
-use Rattle.format.proofs.Tests.{never, and-l, and-r}
-use Rattle.format.proofs.Answers.{got-inj, refuses, refused-first, works, worked, next-ok, next-no}
-use Rattle.format.proofs.Refusals.{read-order, write-order, edit-order, listed, zero-done, read-unchanged, write-unchanged, edit-unchanged}
-use Rattle.format.proofs.Slots.{put-same}
+use Rattle.format.proofs.Tests.{never, and-r, and-no, and-left}
+use Rattle.format.proofs.Answers.{got-inj, refuses, refused-first, works, worked, next-ok, next-no, afterwards-got, afterwards-refused}
+use Rattle.format.proofs.Refusals.{read-order, write-order, edit-order, listed, zero-done}
+use Rattle.format.proofs.Readable.{readable-on}
+use Rattle.format.proofs.Paging.{changed-self}
+use Rattle.format.proofs.Slots.{put-same, wide-unknown}
 use Rattle.format.proofs.Sheets.{sheet-right, right-sheet}
 use Rattle.format.proofs.Entries.{entries-content, values-parts, content-entries, bad-set}
-use Rattle.format.proofs.Values.{set-held}
+use Rattle.format.proofs.Values.{set-held, set-no-value}
 use Rattle.format.proofs.Sound.{read-sound}
 use Rattle.format.proofs.Shorter.{read-fits, laid-shorter}
 use Rattle.format.proofs.Offsets.{read-fitting}
-use Rattle.format.proofs.Laying.{laid-open, own-read, layout-own}
-use Rattle.format.proofs.Writes.{write-accepted, write-tag, written-own, written-read, write-own}
-use Rattle.format.proofs.Edits.{edit-steps, edit-accepted, edit-tag, same-accepted, same-given}
-use Rattle.format.proofs.Histories.{begun, history}
+use Rattle.format.proofs.Laying.{laid-open, layout-own}
+use Rattle.format.proofs.Writes.{write-passed, written-own, written-length, written-sheet, written-passes, own-written}
+use Rattle.format.proofs.Edits.{edit-passed, own-elements, edit-passes, passed-edit, same-length, edited-own, same-accepted}
+use Rattle.format.proofs.Histories.{Good, history, begun}
 
 -- ==== Demand 1: one answer and one content for each buffer, on every input; a refusal changes nothing and gives only its number
 
@@ -96,6 +101,27 @@ refuses-exactly x ss a = (refuses x ss a, refused-first x ss a)
 pub works-exactly : {A : Type 0} (ss : List Step) (a : A) → (Passed ss → inOrder ss a ≡ got a) × (inOrder ss a ≡ got a → Passed ss)
 works-exactly ss a = (works ss a, λ e. worked ss a a e .0)
 
+-- so do the three calls
+of-steps : {A : Type 0} (ss : List Step) (a : A) → Exact ss (inOrder ss a)
+of-steps ss a = record {
+  refuses = λ x f. refuses x ss a f;
+  refused-first = λ x e. refused-first x ss a e;
+  works = λ f. (a, works ss a f);
+  worked = λ b e. worked ss a b e .0;
+}
+
+pub reading-exactly : ReadsExactly reading
+unfolding reading
+reading-exactly p t buffer = of-steps (readSteps p (length buffer) t) _
+
+pub writing-exactly : WritesExactly writing
+unfolding writing
+writing-exactly p s t locks = of-steps (writeSteps p s t locks) _
+
+pub editing-exactly : EditsExactly editing
+unfolding editing
+editing-exactly p t locks n s buffer = of-steps (editSteps p (length buffer) t locks n s) _
+
 -- the steps refuse with the call's numbers, in the paper's order (so the number given is one of the list)
 pub reading-order : (p room : ℕ) (t : List ℕ) → Each readNumbers (readSteps p room t)
 reading-order = read-order
@@ -120,15 +146,17 @@ unfolding editing
 editing-listed p t locks n s buffer x e = listed editNumbers (editSteps p (length buffer) t locks n s) _ x (edit-order p (length buffer) t locks n s) e
 
 -- at a refusal every buffer is as at entry
-pub reading-unchanged : (p : ℕ) (t buffer : List ℕ) (x : Refusal) → reading p t buffer .answer ≡ refused x → reading p t buffer .sheet ≡ buffer
-reading-unchanged = read-unchanged
+pub reading-unchanged : ReadsUnchanged reading
+unfolding reading
+reading-unchanged p t buffer x e = afterwards-refused _ x _ buffer e
 
-pub writing-unchanged : (p : ℕ) (s t locks : List ℕ) (x : Refusal) → writing p s t locks .answer ≡ refused x → writing p s t locks .tag ≡ t
-writing-unchanged = write-unchanged
+pub writing-unchanged : WritesUnchanged writing
+unfolding writing
+writing-unchanged p s t locks x e = afterwards-refused _ x _ t e
 
-pub editing-unchanged : (p : ℕ) (t locks : List ℕ) (n : ℕ) (s buffer : List ℕ) (x : Refusal) → editing p t locks n s buffer .answer ≡ refused x
-    → (editing p t locks n s buffer .tag ≡ t) × (editing p t locks n s buffer .old ≡ buffer)
-editing-unchanged = edit-unchanged
+pub editing-unchanged : EditsUnchanged editing
+unfolding editing
+editing-unchanged p t locks n s buffer x e = (afterwards-refused _ x _ t e, afterwards-refused _ x _ buffer e)
 
 -- ==== Demand 2: reading and writing agree
 
@@ -145,10 +173,17 @@ together-apart c s f =
     (r .0, ap goodValues (r .1) ∙ k .values, ap contentOf (r .1) ∙ k .content)
 
 -- what is written reads back as the same elements: where writing accepts, reading the new tag with room enough gives exactly that sheet
-pub written-reads-back : (p : ℕ) (s t locks : List ℕ) (k : ℕ) → writing p s t locks .answer ≡ got k → (buffer : List ℕ) → length s ≤ length buffer
-    → let r = reading p (writing p s t locks .tag) buffer in (r .answer ≡ got (length s)) × (r .sheet ≡ filled s buffer)
+pub written-reads-back : ReadsBack reading writing
+unfolding reading writing
 written-reads-back p s t locks k e buffer room =
-    rw (write-tag p s t locks k e) (written-read p s t locks k (write-accepted p s t locks k e) buffer room)
+    let w = write-passed p s t locks _ k e .0 in
+    let new : List ℕ = image (length t) (sheetContent s) in
+    let tag : writing p s t locks .tag ≡ new = afterwards-got _ k new t e in
+    let sheet : sheetIn new ≡ s = written-sheet p s t locks w in
+    let v : ℕ = length (sheetIn new) in
+    let a : reading p new buffer .answer ≡ got v = written-passes p s t locks w (length buffer) v (rw sheet room) in
+    rw tag
+    (a ∙ ap (λ (x : List ℕ). got (length x)) sheet, afterwards-got _ v (filled (sheetIn new) buffer) buffer a ∙ ap (λ (x : List ℕ). filled x buffer) sheet)
 
 -- what is read is sound, and its layout exists and is no longer than what was read
 pub what-is-read : (p : ℕ) (t : List ℕ) → bytes t ≡ true → goodSize p (length t) ≡ true → Readable t
@@ -167,46 +202,102 @@ pub set-refused : (p : ℕ) (s t locks : List ℕ) → goodSize p (length t) && 
 unfolding writing writeSteps
 set-refused p s t locks z r w = next-ok _ _ _ _ z ∙ next-ok _ _ _ _ r ∙ next-no _ _ _ _ (bad-set (entriesIn s) (set-held (find 4 (entriesIn s)) w))
 
--- a write never changes more pages than are open
-pub write-open : (p : ℕ) (s t locks : List ℕ) (k : ℕ) → writing p s t locks .answer ≡ got k → k ≤ openPages locks
-write-open p s t locks k e =
-    let w = write-accepted p s t locks k e in
-    rw (sym (w .pages)) (laid-open p locks t (sheetContent s) (w .laid) (and-r (goodSize p (length t)) (lockMap p locks (length t)) (w .sized)))
+-- so is an edit that would set such an element 4, on a tag that the editor takes
+module _ (p : ℕ) (t locks buffer : List ℕ) (z : goodSize p (length t) && lockMap p locks (length t) ≡ true) (r : Readable t) (o : ownLayout t ≡ true) (room : 255 ≤ length buffer) where
+  bad-value : (n : ℕ) (s : List ℕ) → known n && value n s ≡ false → editing p t locks n s buffer .answer ≡ refused (plain 9)
+  unfolding editing editSteps
+  bad-value n s b =
+      next-ok _ _ _ _ z ∙ readable-on t _ _ r ∙ next-ok _ _ _ _ o ∙ next-ok _ _ _ _ (le-leb 255 (length buffer) room) ∙ next-no _ _ _ _ b
+
+  pub edit-set-refused : (s : List ℕ) → (255 < partsOf s) ⊎ ((255 < ordinalOf s) ⊎ (partsOf s < ordinalOf s)) → editing p t locks 4 s buffer .answer ≡ refused (plain 9)
+  edit-set-refused s w = bad-value 4 s (and-no (known 4) (value 4 s) (set-no-value s w))
+
+  -- and an edit of a number above 255, whatever the bytes: it is not cut to a byte, so 257 is not 1
+  pub wide-number-refused : (n : ℕ) (s : List ℕ) → 255 < n → editing p t locks n s buffer .answer ≡ refused (plain 9)
+  wide-number-refused n s w = bad-value n s (and-left (known n) (value n s) (wide-unknown n w))
+
+-- the count of a write is that of the pages whose bytes differ before and after
+pub writing-counts : CountsWritten writing
+unfolding writing
+writing-counts p s t locks k e =
+    let new : List ℕ = image (length t) (sheetContent s) in
+    sym (write-passed p s t locks (changed p t new) k e .1) ∙ ap (changed p t) (sym (afterwards-got _ k new t e))
 
 -- ==== Demand 3: every history of edits
 
 -- A tag is in the writer's own layout if the writer left it there,
-pub written-is-own : (p : ℕ) (s t locks : List ℕ) (k : ℕ) → writing p s t locks .answer ≡ got k → Own (sheetContent s) (writing p s t locks .tag)
-written-is-own p s t locks k e = rw (write-tag p s t locks k e) (written-own p s t locks k (write-accepted p s t locks k e))
+pub written-is-own : LaysDown writing
+unfolding writing
+written-is-own p s t locks k e =
+    let w = write-passed p s t locks _ k e .0 in
+    rw (afterwards-got _ k (image (length t) (sheetContent s)) t e) (written-length p s t locks w, written-own p s t locks w)
 
 -- or if it is readable and the editor finds it so;
 pub taken-is-own : (t : List ℕ) → bytes t ≡ true → Readable t → ownLayout t ≡ true → Own (contentIn t) t
 taken-is-own t y r o = layout-own t (read-sound t y r) o
 
 -- and then it is byte for byte what the writer lays down for its elements, on any tag of that length whose locked pages agree.
-pub own-is-written : (p : ℕ) (locks t₀ t : List ℕ) (c : Content) → Own c t → bytes t ≡ true → length t₀ ≡ length t
-    → goodSize p (length t) && lockMap p locks (length t) ≡ true → lockedChanged p locks t₀ t ≡ 0
+pub own-is-written : (p : ℕ) (locks t₀ t : List ℕ) (c : Content) → Own c t → length t₀ ≡ length t
+    → goodSize p (length t) && lockMap p locks (length t) ≡ true → Kept p locks t₀ t
     → (writing p (sheetOf (entries c)) t₀ locks .answer ≡ got (changed p t₀ t)) × (writing p (sheetOf (entries c)) t₀ locks .tag ≡ t)
-own-is-written p locks t₀ t c o y n z l =
-    let g = and-l (goodSize p (length t)) (lockMap p locks (length t)) z in
-    let r = own-read p c t g o in
-    write-own p locks t₀ t c o (ap (λ (x : Content). fitting (entries x)) (sym (r .1)) ∙ read-fitting p t y g (r .0)) n z l
+own-is-written p locks t₀ t c o n z k = own-written p locks t₀ t c o n z writing writing-exactly written-is-own writing-counts k
+
+-- An edit of such a tag leaves the layout of the elements with the new one in its place, and hands out the old one.
+pub edit-puts : PutsElement editing
+unfolding editing
+edit-puts p locks t c o n s buffer r e =
+    let old : List ℕ = el (contentIn t) n in
+    let new : List ℕ = image (length t) (put (contentIn t) n s) in
+    let a = passed-edit p locks t c o n s (length buffer) (record { pages = changed p t new; old = length old }) r e in
+    let ci : contentIn t ≡ c = own-elements p locks t c o (a .0 .sized) in
+    let tag : editing p t locks n s buffer .tag ≡ image (length t) (put c n s) =
+    afterwards-got _ r new t e ∙ ap (λ (x : Content). image (length t) (put x n s)) ci in (
+      ap length tag ∙ same-length p locks t c o n s (length buffer) (a .0),
+      rw tag (edited-own p locks t c o n s (length buffer) (a .0)),
+      sym (ap (λ (x : Edited). x .old) (a .1)) ∙ ap (λ (x : Content). length (el x n)) ci,
+      afterwards-got _ r (filled old buffer) buffer e ∙ ap (λ (x : Content). filled (el x n) buffer) ci,
+    )
+
+-- Its count is that of the pages whose bytes differ before and after.
+pub editing-counts : CountsEdited editing
+unfolding editing
+editing-counts p t locks n s buffer r e =
+    let new : List ℕ = image (length t) (put (contentIn t) n s) in
+    let given : Edited = record { pages = changed p t new; old = length (el (contentIn t) n) } in
+    sym (ap (λ (x : Edited). x .pages) (edit-passed p t locks n s (length buffer) given r e .1)) ∙ ap (changed p t) (sym (afterwards-got _ r new t e))
 
 -- Start with a tag in the writer's own layout, a lock map that stays the same, and a buffer of 255 bytes or more for the old element
 -- at every call. Make any edits in any number, refused ones among them. After each, the tag is byte for byte what the writer would lay
 -- down for the starting elements with the accepted edits applied, and no locked page has changed. Hand the old elements back, newest
--- first: each is accepted, each brings the tag back to its earlier bytes, and each changes as many pages as its edit did.
-pub every-history : (p : ℕ) (locks t : List ℕ) (c : Content) → Own c t → (es : List Edit)
-    → let st : State = run p locks (begin t c) es in
-    Own (st .content) (st .tag) × Kept p locks t (st .tag) × Undone p locks (st .tag) (st .kept)
+-- first: each is accepted, each brings the tag back to its earlier bytes, and each changes as many pages as its edit did, which are those
+-- whose bytes differ.
+pub every-history : EveryHistory writing editing
 every-history p locks t c o es =
-    let g = history p locks t (begin t c) es (begun p locks t c o) in
-    (g .own, g .kept, g .undone)
+    let keeps = Good editing editing-exactly editing-unchanged editing-counts edit-puts p locks t in
+    let st : State = run editing p locks (begin t c) es in
+    let g : keeps st =
+    history editing editing-exactly editing-unchanged editing-counts edit-puts p locks t (begin t c) es (begun editing editing-exactly editing-unchanged editing-counts edit-puts p locks t c o) in
+    record {
+      written = λ t₀ n z k. own-is-written p locks t₀ (st .tag) (st .content) (g .own) (n ∙ g .size)
+          (ap (λ (m : ℕ). goodSize p m && lockMap p locks m) (sym (g .size)) ∙ z) k;
+      long = sym (g .size);
+      own = g .own;
+      kept = g .kept;
+      undone = g .undone;
+    }
 
--- an edit never changes more pages than are open
+-- neither a write nor an edit changes more pages than are open
+pub write-open : (p : ℕ) (s t locks : List ℕ) (k : ℕ) → writing p s t locks .answer ≡ got k → k ≤ openPages locks
+unfolding writing
+write-open p s t locks k e =
+    let w = write-passed p s t locks (changed p t (image (length t) (sheetContent s))) k e in
+    rw (sym (w .1)) (laid-open p locks t (sheetContent s) (w .0 .laid) (and-r (goodSize p (length t)) (lockMap p locks (length t)) (w .0 .sized)))
+
 pub edit-open : (p : ℕ) (t locks : List ℕ) (n : ℕ) (s buffer : List ℕ) (r : Edited) → editing p t locks n s buffer .answer ≡ got r → r .pages ≤ openPages locks
+unfolding editing
 edit-open p t locks n s buffer r e =
-    let a = edit-steps p t locks n s buffer r e in
+    let given : Edited = record { pages = changed p t (image (length t) (put (contentIn t) n s)); old = length (el (contentIn t) n) } in
+    let a = edit-passed p t locks n s (length buffer) given r e in
     rw (sym (ap (λ (x : Edited). x .pages) (a .1)))
     (laid-open p locks t (put (contentIn t) n s) (a .0 .laid) (and-r (goodSize p (length t)) (lockMap p locks (length t)) (a .0 .sized)))
 
@@ -214,9 +305,12 @@ edit-open p t locks n s buffer r e =
 pub same-changes-nothing : (p : ℕ) (t locks : List ℕ) (c : Content) → Own c t → (n : ℕ) (buffer : List ℕ)
     → goodSize p (length t) && lockMap p locks (length t) ≡ true → 255 ≤ length buffer → known n ≡ true
     → (editing p t locks n (el c n) buffer .answer ≡ got (record { pages = 0; old = length (el c n) })) × (editing p t locks n (el c n) buffer .tag ≡ t)
-same-changes-nothing p t locks c o n buffer z r k =
-    let a = edit-accepted p locks t c o n (el c n) buffer (same-accepted p locks t c o n (length buffer) z r k) in
-    let ci = own-read p c t (and-l (goodSize p (length t)) (lockMap p locks (length t)) z) o .1 in (
-      a ∙ ap got (same-given p t c o n),
-      edit-tag p t locks n (el c n) buffer _ a ∙ ap (λ (x : Content). image (length t) (put x n (el c n))) ci ∙ ap (image (length t)) (put-same c n) ∙ o .lies,
-    )
+same-changes-nothing p t locks c o n buffer z room k =
+    let s : List ℕ = el c n in
+    let a = same-accepted p locks t c o n (length buffer) z room k in
+    let d = editing-exactly p t locks n s buffer .works (worked _ (tt {0}) (tt {0}) (edit-passes p locks t c o n s (length buffer) (tt {0}) a) .0) in
+    let r : Edited = d .0 in
+    let h = edit-puts p locks t c o n s buffer r (d .1) in
+    let tag : editing p t locks n s buffer .tag ≡ t = sym (h .1 .lies) ∙ ap₂ image (h .0) (put-same c n) ∙ o .lies in
+    let pages : r .pages ≡ 0 = editing-counts p t locks n s buffer r (d .1) ∙ ap (changed p t) tag ∙ changed-self p t in
+    (d .1 ∙ ap₂ (λ (x y : ℕ). got (record { pages = x; old = y })) pages (h .2), tag)

@@ -1,4 +1,4 @@
--- Each call refuses with the numbers of its list, in that order, and then leaves every buffer as it was.
+-- Each call refuses with the numbers of its list, in that order.
 use mathlib.Core.Path.{_≡_, refl, sym, ap}
 use mathlib.Core.Logic.{_⊎_, inl, inr}
 use Prim.Native.Nat.{ℕ, zero, suc}
@@ -11,10 +11,10 @@ use Rattle.format.specs.Answers.{Answer, Refusal, plain, got, refused, S
 use Rattle.format.specs.Bytes.{if_then_else_}
 use Rattle.format.specs.Chain.{wellFormed, isLibrary, walk, chain}
 use Rattle.format.specs.Reading.{walked, tagSteps}
-use Rattle.format.specs.Calls.{readSteps, layingSteps, writeSteps, editSteps, reading, writing, editing}
+use Rattle.format.specs.Calls.{readSteps, layingSteps, writeSteps, editSteps}
 use Rattle.format.specs.Numbers.{readNumbers, writeNumbers, editNumbers, Each, none, next, oneOf, numberOf}
 use Rattle.format.proofs.Tests.{never, or-l, or-r}
-use Rattle.format.proofs.Answers.{worked, need-refused, passed-refused, afterwards-refused}
+use Rattle.format.proofs.Answers.{worked, need-refused, passed-refused}
 
 -- ---- the damage of a chain is 5
 
@@ -89,18 +89,3 @@ zero-done {A} ns ss a r z e = go (inOrder ss a) refl e
         let q : plain k ≡ plain (l .0) = l .1 in
         let m : l .0 ≡ 0 = cc in
         never (cc (ap (oneOf ns) m))
-
--- ---- at a refusal every buffer is as it was
-
-pub read-unchanged : (p : ℕ) (t buffer : List ℕ) (x : Refusal) → reading p t buffer .answer ≡ refused x → reading p t buffer .sheet ≡ buffer
-unfolding reading
-read-unchanged p t buffer x e = afterwards-refused _ x _ buffer e
-
-pub write-unchanged : (p : ℕ) (s t locks : List ℕ) (x : Refusal) → writing p s t locks .answer ≡ refused x → writing p s t locks .tag ≡ t
-unfolding writing
-write-unchanged p s t locks x e = afterwards-refused _ x _ t e
-
-pub edit-unchanged : (p : ℕ) (t locks : List ℕ) (n : ℕ) (s buffer : List ℕ) (x : Refusal) → editing p t locks n s buffer .answer ≡ refused x
-    → (editing p t locks n s buffer .tag ≡ t) × (editing p t locks n s buffer .old ≡ buffer)
-unfolding editing
-edit-unchanged p t locks n s buffer x e = (afterwards-refused _ x _ t e, afterwards-refused _ x _ buffer e)

@@ -8,7 +8,7 @@ use mathlib.Core.List.{List, [], _∷_}
 use lib.Dec.{eqb, leb, lit<}
 use lib.ListN.{length, getD, set}
 use lib.Seq.{set-set, set-getD}
-use borrow.Author.Tests.{eqb-true, ltb-true}
+use borrow.Author.Tests.{eqb-true, ne-eqb, ltb-true}
 use Rattle.format.specs.Bytes.{if_then_else_, isEmpty, all}
 use Rattle.format.specs.Elements.{Content, numbers, placeIn, place, known, el, put, shape, form, value, clash, valuesAt, sound}
 use Rattle.format.specs.Slices.{Valued}
@@ -120,6 +120,20 @@ sound-facts c e =
 pub known-at : (n : ℕ) → known n ≡ true → (place n < length numbers) × (getD numbers (place n) 0 ≡ n)
 unfolding known place
 known-at n k = let h = ltb-true (placeIn numbers n) (length numbers) k in (h, place-number numbers n h)
+
+-- no number above 255 is one of the table
+pub wide-unknown : (n : ℕ) → 255 < n → known n ≡ false
+unfolding known place placeIn numbers
+wide-unknown n h =
+    rw (
+      ne-eqb 1 n (λ e. omega arith),
+      ne-eqb 3 n (λ e. omega arith),
+      ne-eqb 4 n (λ e. omega arith),
+      ne-eqb 5 n (λ e. omega arith),
+      ne-eqb 19 n (λ e. omega arith),
+      ne-eqb 22 n (λ e. omega arith),
+      ne-eqb 23 n (λ e. omega arith),
+    )
 
 module _ (c : Content) (sc : sound c ≡ true) (n : ℕ) (kn : known n ≡ true) where
   pub value-of : value n (el c n) ≡ true

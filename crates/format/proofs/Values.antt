@@ -95,6 +95,12 @@ set-held s (inl h) = and-left _ _ (and-left _ _ (and-no (eqb (length s) 4) (leb 
 set-held s (inr (inl h)) = and-left _ _ (and-no (eqb (length s) 4 && leb (partsOf s) 255) (leb (ordinalOf s) 255) (lt-leb (ordinalOf s) 255 h))
 set-held s (inr (inr h)) = and-no (eqb (length s) 4 && leb (partsOf s) 255 && leb (ordinalOf s) 255) (leb (ordinalOf s) (partsOf s)) (lt-leb (ordinalOf s) (partsOf s) h)
 
+-- so such an element 4 is no value
+pub set-no-value : (s : List ℕ) → (255 < partsOf s) ⊎ ((255 < ordinalOf s) ⊎ (partsOf s < ordinalOf s)) → value 4 s ≡ false
+unfolding value form shape
+set-no-value [] h = refl
+set-no-value (x ∷ s) h = and-left (setInfo (x ∷ s)) (leb (length (x ∷ s)) 255) (set-held (x ∷ s) h)
+
 pub set-value : (p q : ℕ) → q ≤ p → p ≤ 255 → value 4 (setBytes p q) ≡ true
 unfolding value form shape setInfo le16 word
 set-value p q h l =

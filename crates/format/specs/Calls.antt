@@ -105,3 +105,14 @@ editing p t locks n s buffer =
     let new : List ℕ = image (length t) (put (contentIn t) n s) in
     let answer : Answer Edited = inOrder (editSteps p (length buffer) t locks n s) (record { pages = changed p t new; old = length old }) in
     record { answer = answer; tag = afterwards answer new t; old = afterwards answer (filled old buffer) buffer }
+
+-- ---- calls of these three kinds, right or wrong: what they make of what they are lent
+
+abbrev pub Reader : Type 0
+Reader = ℕ → List ℕ → List ℕ → ReadOutcome
+
+abbrev pub Writer : Type 0
+Writer = ℕ → List ℕ → List ℕ → List ℕ → WriteOutcome
+
+abbrev pub Editor : Type 0
+Editor = ℕ → List ℕ → List ℕ → ℕ → List ℕ → List ℕ → EditOutcome

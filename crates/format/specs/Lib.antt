@@ -13,3 +13,4 @@ pub mod Reading
 pub mod Calls
 pub mod Numbers
 pub mod History
+pub mod Demands

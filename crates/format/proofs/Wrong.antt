@@ -1,0 +1,237 @@
+-- Wrong readers, writers and editors, and the demand that each breaks. Nothing is said here of `reading`, `writing` or `editing`: whatever
+-- program is of one of these kinds does not keep the demand (specs/Demands.antt), however its proof were made.
+use mathlib.Core.Path.{_≡_, refl, sym, ap, _∙_}
+use Prim.Native.Nat.{ℕ, _≤_, _<_}
+use native.Mathlib.Omega.{arith}
+use mathlib.Core.Bool.{true, false}
+use mathlib.Core.List.{List, [], _∷_}
+use lib.Dec.{lit<}
+use lib.ListN.{length, getD, replicate}
+use Rattle.format.specs.Answers.{Answer, Refusal, got, refused, Step, need, inOrder, Passed, afterwards, andThen, orElse, passed}
+use Rattle.format.specs.Bytes.{isEmpty, all, same, le16, word, padWith, trim, strip, upTo, past, xorAll, joined}
+use Rattle.format.specs.Pages.{pageSize, goodSize, lockMap, differs, lockedDiffers, count, changed, lockedChanged}
+use Rattle.format.specs.Crc.{crcBit, crcBits, crcByte, crcFrom, crc, covered}
+use Rattle.format.specs.Fields.{textByte, text, capital, unitByte, isilOf, isil, alternative, isOwner, goodItem, prefixIn, ownerSaid, goodOwner, itemField, packed, basicOwner, ownerField}
+use Rattle.format.specs.Chain.{wellFormed, carriable, walk, chain, libraryBlock, otherBlocks, payload, lastField, libraryIn, goodLibrary, libraryBytes, sealed, blockOne}
+use Rattle.format.specs.Elements.{Content, numbers, setInfo, shape, form, value, placeIn, place, known, el, put, clash, valuesAt, sound}
+use Rattle.format.specs.Sheet.{heads, bodies, sheetOf, offsetsFit, risingFrom, rising, cut, entriesIn, rightSheet, find, carriedIn, contentOf, goodValues, entriesAt, carriedEntries, entries}
+use Rattle.format.specs.Layout.{library, front, basic, laidOut, image, fits}
+use Rattle.format.specs.Reading.{goodFields, agree, ownerOn, contentIn, tagSteps}
+use Rattle.format.specs.Calls.{readSteps, layingSteps, sheetContent, writeSteps, ownLayout, editSteps, Edited, Reader, Writer, Editor}
+use Rattle.format.specs.History.{Own, Edit, State, begin, noted, edited, run, Undoes, Undone}
+use Rattle.format.specs.Demands.{ReadsExactly, WritesExactly, EditsExactly, ReadsBack, LaysDown, CountsWritten, EveryHistory, Lived}
+use Rattle.format.proofs.Tests.{never}
+use Rattle.format.proofs.Answers.{worked}
+use Rattle.format.proofs.Pairs.{zeros, isilUs, isilDk, fieldDk, wholeSheet, wholeFront, wholeTag, item2, acquisition, tag2, sheet2}
+
+-- ---- two sheets, two tags, and a few edits that serve to tell right from wrong
+
+-- the whole case of document 01, and the same with B2 for B1
+item : List ℕ
+item = 0x42 ∷ 0x32 ∷ []
+
+otherSheet : List ℕ
+otherSheet = 3 ∷ 0 ∷ 1 ∷ 0x0E ∷ 0 ∷ 2 ∷ 4 ∷ 0x10 ∷ 0 ∷ 4 ∷ 5 ∷ 0x14 ∷ 0 ∷ 1 ∷ 0x42 ∷ 0x32 ∷ 1 ∷ 0 ∷ 1 ∷ 0 ∷ 0x10 ∷ []
+
+-- the whole case's elements, and those of B.2; the whole case's tag once it has an owner
+abbrev whole : Content
+whole = sheetContent wholeSheet
+
+abbrev book : Content
+book = sheetContent sheet2
+
+abbrev owned : List ℕ
+owned = image (length wholeTag) (put whole 3 isilUs)
+
+used : List ℕ
+used = replicate 40 0xFF
+
+-- what is computed of them
+record Facts : Type 0 where
+  read-whole : inOrder (readSteps pageSize 21 wholeTag) (tt {0}) ≡ got tt
+  write-whole : inOrder (writeSteps pageSize wholeSheet (zeros 36) (zeros 9)) (tt {0}) ≡ got tt
+  write-other : inOrder (writeSteps pageSize otherSheet (zeros 36) (zeros 9)) (tt {0}) ≡ got tt
+  write-again : inOrder (writeSteps pageSize wholeSheet wholeTag (zeros 9)) (tt {0}) ≡ got tt
+  write-used : inOrder (writeSteps pageSize wholeSheet used (zeros 10)) (tt {0}) ≡ got tt
+  edit-item : inOrder (editSteps pageSize 255 wholeTag (zeros 9) 1 item) (tt {0}) ≡ got tt
+  edit-same : inOrder (editSteps pageSize 255 wholeTag (zeros 9) 1 (el whole 1)) (tt {0}) ≡ got tt
+  edit-owner : inOrder (editSteps pageSize 255 wholeTag (zeros 9) 3 isilUs) (tt {0}) ≡ got tt
+  edit-owner-again : inOrder (editSteps pageSize 255 owned (zeros 9) 3 isilDk) (tt {0}) ≡ got tt
+  edit-media : inOrder (editSteps pageSize 255 tag2 (zeros 19) 19 []) (tt {0}) ≡ got tt
+  whole-image : image 36 whole ≡ wholeTag
+  whole-own : Own whole wholeTag
+  book-own : Own book tag2
+  owner-there : isEmpty (el (contentIn owned) 3) ≡ false
+  first-byte : getD wholeTag 0 0 ≡ 0x11
+  item-byte : getD wholeTag 4 0 ≡ 0x31
+  new-item-byte : getD (image (length wholeTag) (put whole 1 item)) 4 0 ≡ 0x32
+  owner-byte : getD owned 21 0 ≡ 0x55
+  new-owner-byte : getD (image (length wholeTag) (put (put whole 3 isilUs) 3 isilDk)) 21 0 ≡ 0x44
+  pages-written : changed pageSize (zeros 36) wholeTag ≡ 4
+  pages-again : changed pageSize wholeTag wholeTag ≡ 0
+  pages-edited : changed pageSize wholeTag (image (length wholeTag) (put whole 1 item)) ≡ 3
+  pages-same : changed pageSize wholeTag (image (length wholeTag) (put whole 1 (el whole 1))) ≡ 0
+  used-laid : length (laidOut 40 whole) ≡ 34
+  used-byte : getD (image 40 whole) 36 0 ≡ 0
+  book-laid : length (laidOut (length tag2) (put (contentIn tag2) 19 [])) ≡ 68
+  book-byte : getD tag2 70 0 ≡ 0x35
+  new-book-byte : getD (image (length tag2) (put book 19 [])) 70 0 ≡ 0
+
+facts : Facts
+unfolding item otherSheet used isilUs isilDk fieldDk wholeSheet wholeFront wholeTag item2 acquisition tag2 sheet2 need inOrder afterwards andThen orElse passed all same le16 word padWith trim strip upTo past xorAll joined goodSize lockMap differs lockedDiffers count changed lockedChanged crcBit crcBits crcByte crcFrom crc covered textByte text capital unitByte isilOf isil alternative isOwner goodItem prefixIn ownerSaid goodOwner itemField packed basicOwner ownerField wellFormed carriable walk chain libraryBlock otherBlocks payload lastField libraryIn goodLibrary libraryBytes sealed blockOne numbers setInfo shape form value placeIn place known put clash valuesAt sound heads bodies sheetOf offsetsFit risingFrom rising cut entriesIn rightSheet find carriedIn contentOf goodValues entriesAt carriedEntries entries library front basic laidOut image fits goodFields agree ownerOn contentIn tagSteps layingSteps ownLayout readSteps writeSteps editSteps
+facts = record {
+  read-whole = refl;
+  write-whole = refl;
+  write-other = refl;
+  write-again = refl;
+  write-used = refl;
+  edit-item = refl;
+  edit-same = refl;
+  edit-owner = refl;
+  edit-owner-again = refl;
+  edit-media = refl;
+  whole-image = refl;
+  whole-own = record { sane = refl; fit = refl; lies = refl };
+  book-own = record { sane = refl; fit = refl; lies = refl };
+  owner-there = refl;
+  first-byte = refl;
+  item-byte = refl;
+  new-item-byte = refl;
+  owner-byte = refl;
+  new-owner-byte = refl;
+  pages-written = refl;
+  pages-again = refl;
+  pages-edited = refl;
+  pages-same = refl;
+  used-laid = refl;
+  used-byte = refl;
+  book-laid = refl;
+  book-byte = refl;
+  new-book-byte = refl;
+}
+
+passes : (ss : List Step) → inOrder ss (tt {0}) ≡ got tt → Passed ss
+passes ss e = worked ss (tt {0}) tt e .0
+
+no-refusal : {A : Type 0} {a : Answer A} {x : Refusal} {r : A} → a ≡ refused x → a ≡ got r → ⊥
+no-refusal e f = never (cc)
+
+-- ==== a reader, a writer or an editor that refuses all: demand 2's exact refusals
+
+pub reader-refusing-all : (read : Reader) → ((p : ℕ) (t buffer : List ℕ) → (x : Refusal) × (read p t buffer .answer ≡ refused x)) → ReadsExactly read → ⊥
+reader-refusing-all read never-reads exact =
+    no-refusal (never-reads pageSize wholeTag (zeros 21) .1) (exact pageSize wholeTag (zeros 21) .works (passes _ (facts .read-whole)) .1)
+
+pub writer-refusing-all : (write : Writer) → ((p : ℕ) (s t locks : List ℕ) → (x : Refusal) × (write p s t locks .answer ≡ refused x)) → WritesExactly write → ⊥
+writer-refusing-all write never-writes exact =
+    no-refusal (never-writes pageSize wholeSheet (zeros 36) (zeros 9) .1) (exact pageSize wholeSheet (zeros 36) (zeros 9) .works (passes _ (facts .write-whole)) .1)
+
+pub editor-refusing-all : (edit : Editor) → ((p : ℕ) (t locks : List ℕ) (n : ℕ) (s buffer : List ℕ) → (x : Refusal) × (edit p t locks n s buffer .answer ≡ refused x))
+    → EditsExactly edit → ⊥
+editor-refusing-all edit never-edits exact =
+    no-refusal (never-edits pageSize wholeTag (zeros 9) 1 item (zeros 255) .1) (exact pageSize wholeTag (zeros 9) 1 item (zeros 255) .works (passes _ (facts .edit-item)) .1)
+
+-- ==== a reader that gives one sheet for every tag that it reads: demand 2, what is written reads back
+
+pub one-sheet-for-all : (read : Reader) (write : Writer)
+    → ((p : ℕ) (t t′ buffer : List ℕ) (n n′ : ℕ) → read p t buffer .answer ≡ got n → read p t′ buffer .answer ≡ got n′ → read p t buffer .sheet ≡ read p t′ buffer .sheet)
+    → WritesExactly write → ReadsBack read write → ⊥
+unfolding wholeSheet otherSheet
+one-sheet-for-all read write one exact back =
+    let a = exact pageSize wholeSheet (zeros 36) (zeros 9) .works (passes _ (facts .write-whole)) in
+    let b = exact pageSize otherSheet (zeros 36) (zeros 9) .works (passes _ (facts .write-other)) in
+    let r = back pageSize wholeSheet (zeros 36) (zeros 9) (a .0) (a .1) (zeros 21) (omega arith) in
+    let q = back pageSize otherSheet (zeros 36) (zeros 9) (b .0) (b .1) (zeros 21) (omega arith) in
+    let z : _≡_ {A = ℕ} 0x31 0x32 = ap (λ (l : List ℕ). getD l 15 0) (sym (r .1) ∙ one pageSize _ _ (zeros 21) _ _ (r .0) (q .0) ∙ q .1) in
+    omega arith
+
+-- ==== a writer that touches nothing, invents its count, or keeps old bytes: the layout and the pages that differ, demand 2
+
+module _ (write : Writer) (exact : WritesExactly write) (lays : LaysDown write) where
+  -- the tag that such a writer leaves
+  leaves : (s t locks : List ℕ) → inOrder (writeSteps pageSize s t locks) (tt {0}) ≡ got tt
+      → (k : ℕ) × (write pageSize s t locks .answer ≡ got k) × (write pageSize s t locks .tag ≡ image (length t) (sheetContent s))
+  leaves s t locks e =
+      let a = exact pageSize s t locks .works (passes _ e) in
+      let h = lays pageSize s t locks (a .0) (a .1) in
+      (a .0, a .1, sym (h .1 .lies) ∙ ap (λ (n : ℕ). image n (sheetContent s)) (h .0))
+
+  pub writer-touching-nothing : ((p : ℕ) (s t locks : List ℕ) → write p s t locks .tag ≡ t) → ⊥
+  writer-touching-nothing nothing =
+      let w = leaves wholeSheet (zeros 36) (zeros 9) (facts .write-whole) in
+      let z : _≡_ {A = ℕ} 0 0x11 = ap (λ (l : List ℕ). getD l 0 0) (sym (nothing pageSize wholeSheet (zeros 36) (zeros 9)) ∙ w .2 ∙ facts .whole-image) ∙ facts .first-byte in
+      omega arith
+
+  -- one count for every sheet that it writes
+  pub writer-counting-one : CountsWritten write
+      → ((p : ℕ) (s t locks t′ : List ℕ) (k k′ : ℕ) → write p s t locks .answer ≡ got k → write p s t′ locks .answer ≡ got k′ → k ≡ k′) → ⊥
+  writer-counting-one counts one =
+      let a = leaves wholeSheet (zeros 36) (zeros 9) (facts .write-whole) in
+      let b = leaves wholeSheet wholeTag (zeros 9) (facts .write-again) in
+      let four : a .0 ≡ 4 = counts pageSize wholeSheet (zeros 36) (zeros 9) (a .0) (a .1) ∙ ap (changed pageSize (zeros 36)) (a .2 ∙ facts .whole-image) ∙ facts .pages-written in
+      let none : b .0 ≡ 0 = counts pageSize wholeSheet wholeTag (zeros 9) (b .0) (b .1) ∙ ap (changed pageSize wholeTag) (b .2 ∙ facts .whole-own .lies) ∙ facts .pages-again in
+      omega (arith, one pageSize wholeSheet (zeros 36) (zeros 9) wholeTag (a .0) (b .0) (a .1) (b .1))
+
+  -- behind the end mark
+  pub writer-keeping-bytes : ((p : ℕ) (s t locks : List ℕ) (k : ℕ) → write p s t locks .answer ≡ got k → (i : ℕ) → length (laidOut (length t) (sheetContent s)) < i
+      → getD (write p s t locks .tag) i 0 ≡ getD t i 0) → ⊥
+  unfolding used
+  writer-keeping-bytes keeps =
+      let w = leaves wholeSheet used (zeros 10) (facts .write-used) in
+      let z : _≡_ {A = ℕ} 0 0xFF =
+      sym (facts .used-byte) ∙ ap (λ (l : List ℕ). getD l 36 0) (sym (w .2)) ∙ keeps pageSize wholeSheet used (zeros 10) (w .0) (w .1) 36 (omega (arith, facts .used-laid)) in
+      omega arith
+
+-- ==== an editor that touches nothing, pretends at later edits, invents its count, or keeps old bytes: demand 3, after each edit
+
+abbrev setting : ℕ → List ℕ → Edit
+setting n s = record { number = n; bytes = s; room = zeros 255; enough = omega arith }
+
+module _ (write : Writer) (edit : Editor) (exact : EditsExactly edit) (every : EveryHistory write edit) where
+  -- the tag that such an editor leaves, and its count
+  edits : (t locks : List ℕ) (c : Content) → Own c t → (n : ℕ) (s : List ℕ) → inOrder (editSteps pageSize 255 t locks n s) (tt {0}) ≡ got tt
+      → let o = edit pageSize t locks n s (zeros 255) in
+      (r : Edited) × (o .answer ≡ got r) × (o .tag ≡ image (length t) (put c n s)) × (r .pages ≡ changed pageSize t (o .tag))
+  unfolding run edited noted Undone
+  edits t locks c o n s e =
+      let a = exact pageSize t locks n s (zeros 255) .works (passes _ e) in
+      let l = rw (a .1) at (every pageSize locks t c o (setting n s ∷ [])) in
+      (a .0, a .1, sym (l .own .lies) ∙ ap (λ (k : ℕ). image k (put c n s)) (l .long), l .undone .0 .counted)
+
+  pub editor-touching-nothing : ((p : ℕ) (t locks : List ℕ) (n : ℕ) (s buffer : List ℕ) → edit p t locks n s buffer .tag ≡ t) → ⊥
+  editor-touching-nothing nothing =
+      let w = edits wholeTag (zeros 9) whole (facts .whole-own) 1 item (facts .edit-item) in
+      let z : _≡_ {A = ℕ} 0x31 0x32 =
+      sym (facts .item-byte) ∙ ap (λ (l : List ℕ). getD l 4 0) (sym (nothing pageSize wholeTag (zeros 9) 1 item (zeros 255)) ∙ w .2) ∙ facts .new-item-byte in
+      omega arith
+
+  -- one count for every edit that it accepts
+  pub editor-counting-one : ((p : ℕ) (t locks : List ℕ) (n : ℕ) (s s′ buffer : List ℕ) (r r′ : Edited)
+      → edit p t locks n s buffer .answer ≡ got r → edit p t locks n s′ buffer .answer ≡ got r′ → r .pages ≡ r′ .pages) → ⊥
+  editor-counting-one one =
+      let a = edits wholeTag (zeros 9) whole (facts .whole-own) 1 item (facts .edit-item) in
+      let b = edits wholeTag (zeros 9) whole (facts .whole-own) 1 (el whole 1) (facts .edit-same) in
+      let three : a .0 .pages ≡ 3 = a .3 ∙ ap (changed pageSize wholeTag) (a .2) ∙ facts .pages-edited in
+      let none : b .0 .pages ≡ 0 = b .3 ∙ ap (changed pageSize wholeTag) (b .2) ∙ facts .pages-same in
+      omega (arith, one pageSize wholeTag (zeros 9) 1 item (el whole 1) (zeros 255) (a .0) (b .0) (a .1) (b .1))
+
+  -- behind the end mark: B.2 without its element 19 has no block 1, and the block behind it moves
+  pub editor-keeping-bytes : ((p : ℕ) (t locks : List ℕ) (n : ℕ) (s buffer : List ℕ) (r : Edited) → edit p t locks n s buffer .answer ≡ got r
+      → (i : ℕ) → length (laidOut (length t) (put (contentIn t) n s)) < i → getD (edit p t locks n s buffer .tag) i 0 ≡ getD t i 0) → ⊥
+  editor-keeping-bytes keeps =
+      let w = edits tag2 (zeros 19) book (facts .book-own) 19 [] (facts .edit-media) in
+      let z : _≡_ {A = ℕ} 0 0x35 =
+      sym (facts .new-book-byte) ∙ ap (λ (l : List ℕ). getD l 70 0) (sym (w .2)) ∙ keeps pageSize tag2 (zeros 19) 19 [] (zeros 255) (w .0) (w .1) 70 (omega (arith, facts .book-laid)) ∙ facts .book-byte in
+      omega arith
+
+  -- the first edit of an element is done, later ones leave the tag alone: an owner is set, and then another
+  pub editor-pretending : ((p : ℕ) (t locks : List ℕ) (n : ℕ) (s buffer : List ℕ) → isEmpty (el (contentIn t) n) ≡ false → edit p t locks n s buffer .tag ≡ t) → ⊥
+  unfolding run edited noted
+  editor-pretending pretends =
+      let a = edits wholeTag (zeros 9) whole (facts .whole-own) 3 isilUs (facts .edit-owner) in
+      let b = exact pageSize owned (zeros 9) 3 isilDk (zeros 255) .works (passes _ (facts .edit-owner-again)) in
+      let l = rw (a .1, a .2, b .1) at (every pageSize (zeros 9) wholeTag whole (facts .whole-own) (setting 3 isilUs ∷ setting 3 isilDk ∷ [])) in
+      let same-tag = pretends pageSize owned (zeros 9) 3 isilDk (zeros 255) (facts .owner-there) in
+      let laid : image (length wholeTag) (put (put whole 3 isilUs) 3 isilDk) ≡ owned = ap (λ (k : ℕ). image k (put (put whole 3 isilUs) 3 isilDk)) (sym (l .long)) ∙ l .own .lies ∙ same-tag in
+      let z : _≡_ {A = ℕ} 0x44 0x55 = sym (facts .new-owner-byte) ∙ ap (λ (x : List ℕ). getD x 21 0) laid ∙ facts .owner-byte in
+      omega arith
