@@ -6,8 +6,8 @@ use mathlib.Core.List.{List, [], _∷_, _++_}
 use lib.Dec.{eqb, leb}
 use lib.ListN.{length, set}
 use native.Mathlib.Omega.{arith}
-use borrow.Author.Tests.{eqb-true, leb-true}
-use Rattle.format.specs.Answers.{got, refused, plain, Step, need, inOrder}
+use borrow.Author.Tests.{eqb-true, eq-eqb, leb-true}
+use Rattle.format.specs.Answers.{Refusal, got, refused, plain, Step, need, inOrder}
 use Rattle.format.specs.Bytes.{if_then_else_, bytes, joined, filled}
 use Rattle.format.specs.Pages.{pageSize, goodSize, lockMap, changed}
 use Rattle.format.specs.Elements.{Content, numbers, placeIn, place, el, put, known, value, clash}
@@ -17,8 +17,8 @@ use Rattle.format.specs.Reading.{contentIn, tagSteps}
 use Rattle.format.specs.Calls.{layingSteps, layoutIs, ownLayout, editSteps, Edited, editing}
 use Rattle.format.specs.Numbers.{Edits}
 use Rattle.format.specs.declared.EditAnswer.the-variants as edit
-use Rattle.format.proofs.Tests.{and-l, and-r, eqb-sym}
-use Rattle.format.proofs.Answers.{first-no, next-ok, next-no, next-inv, refused-on, refused-with, passed-on, works, worked, afterwards-got, afterwards-refused}
+use Rattle.format.proofs.Tests.{never, and-l, and-r, eqb-sym}
+use Rattle.format.proofs.Answers.{first-no, next-ok, next-inv, refused-on, refused-with, passed-on, works, worked, afterwards-got, afterwards-refused}
 use Rattle.format.proofs.Joined.{Alike, own-alike, joined-one, joined-alike}
 use Rattle.format.proofs.Readable.{readable-on}
 use Rattle.format.proofs.Slots.{value-of}
@@ -105,15 +105,20 @@ look-edits t locks n s buffer k m z j e =
     let r : inOrder {A = Unit {0}} (tagSteps t) tt ≡ refused (plain k) = sym (next-ok 1 (goodSize pageSize (length t)) (tagSteps t) tt g) ∙ j in
     refused-edits t locks n s buffer k m (next-ok 1 (sized t locks) _ _ z ∙ refused-on (tagSteps t) _ tt _ (plain k) r) e
 
--- 13: a tag that is not the writer's own layout
-pub loose-edits : (t locks : List ℕ) (n : ℕ) (s buffer : List ℕ) → sized t locks ≡ true → judged t ≡ got tt → (ownLayout t ≡ true → ⊥) → Edits t locks n s buffer (edit.Refused 13) t buffer
+-- where a test is refused, so is one that it follows from
+need-stronger : (n : ℕ) (a b : Bool) (x : Refusal) → (a ≡ true → b ≡ true) → need n b ≡ refused x → need n a ≡ refused x
+unfolding need
+need-stronger n true b x h r = sym (ap (need n) (h refl)) ∙ r
+need-stronger n false true x h r = never (cc)
+need-stronger n false false x h r = r
+
+-- 13: the carried blocks, of `size` bytes, do not stand in one piece of `len`, so the tag is not the writer's own layout
+pub loose-edits : (t locks : List ℕ) (n : ℕ) (s buffer : List ℕ) (len size k m : ℕ) → sized t locks ≡ true → judged t ≡ got tt → (ownLayout t ≡ true → len ≡ size)
+    → need 13 (eqb len size) ≡ refused (plain k) → m ≡ k → Edits t locks n s buffer (edit.Refused m) t buffer
 unfolding editing editSteps
-loose-edits t locks n s buffer z j h =
-    refused-edits t locks n s buffer 13 13 (next-ok 1 (sized t locks) _ _ z ∙ readable-on t _ _ (seen-readable t j) ∙ next-no 13 (ownLayout t) _ _ (untrue (ownLayout t) h)) refl
-  where
-    untrue : (x : Bool) → (x ≡ true → ⊥) → x ≡ false
-    untrue true f = absurd (f refl)
-    untrue false f = refl
+loose-edits t locks n s buffer len size k m z j h r e =
+    let w : need 13 (ownLayout t) ≡ refused (plain k) = need-stronger 13 (ownLayout t) (eqb len size) (plain k) (λ o. eq-eqb len size (h o)) r in
+    refused-edits t locks n s buffer k m (next-ok 1 (sized t locks) _ _ z ∙ readable-on t _ _ (seen-readable t j) ∙ first-no (need 13 (ownLayout t)) _ _ (plain k) w) e
 
 -- ---- a tag that was seen, and its elements in slices
 
@@ -260,5 +265,6 @@ copy-editable b t locks item isil set usage media second other carried k j y h r
 pub copy-look-edits : (b t locks : List ℕ) (n : ℕ) (s buffer : List ℕ) (k m : ℕ) → Copied b t locks → judged b ≡ refused (plain k) → m ≡ k → Edits t locks n s buffer (edit.Refused m) t buffer
 copy-look-edits b t locks n s buffer k m c j e = look-edits t locks n s buffer k m (c .sized) (rw (c .copy) at j) e
 
-pub copy-loose-edits : (b t locks : List ℕ) (n : ℕ) (s buffer : List ℕ) → Copied b t locks → judged b ≡ got tt → (ownLayout b ≡ true → ⊥) → Edits t locks n s buffer (edit.Refused 13) t buffer
-copy-loose-edits b t locks n s buffer c j h = loose-edits t locks n s buffer (c .sized) (rw (c .copy) at j) (rw (c .copy) at h)
+pub copy-loose-edits : (b t locks : List ℕ) (n : ℕ) (s buffer : List ℕ) (len size k m : ℕ) → Copied b t locks → judged b ≡ got tt → (ownLayout b ≡ true → len ≡ size)
+    → need 13 (eqb len size) ≡ refused (plain k) → m ≡ k → Edits t locks n s buffer (edit.Refused m) t buffer
+copy-loose-edits b t locks n s buffer len size k m c j h = loose-edits t locks n s buffer len size k m (c .sized) (rw (c .copy) at j) (rw (c .copy) at h)

@@ -1,3 +1,2 @@
-pub mod Stages
 pub mod Picking
 pub mod Editing

@@ -1,6 +1,7 @@
 // The three calls: reading a tag into a sheet, writing a sheet onto a tag, editing one element on a tag.
 use format::EditAnswer;
 use format::ReadAnswer;
+use format::Stage;
 use format::WriteAnswer;
 use image::Laid;
 use look::Look;
@@ -12,39 +13,23 @@ ghost use mathlib.Core.Bool.{true, false, _&&_};
 ghost use mathlib.Core.List.{[], _∷_};
 ghost use Prim.Native.Nat.{_+_};
 ghost use lib.ListN.{length};
-ghost use lib.Dec.{leb};
+ghost use lib.Dec.{eqb, leb};
 ghost use Rattle.format.specs.Answers.{got, need, inOrder};
 ghost use Rattle.format.specs.Pages.{pageSize, goodSize, lockMap};
 ghost use Rattle.format.specs.Elements.{clash, known, value, el};
 ghost use Rattle.format.specs.Slices.{elements, Valued};
 ghost use Rattle.format.specs.Calls.{layoutIs};
-ghost use Rattle.format.specs.Numbers.{Reads, Writes, Edits};
-ghost use Rattle.image.specs.Laying.{RightCheck};
+ghost use Rattle.format.specs.Numbers.{numberOf, stageGiven, Reads, Writes, Edits};
+ghost use Rattle.image.specs.Laying.{laidGiven, RightCheck};
 ghost use Rattle.look.specs.View.{Viewed, judged};
-ghost use Rattle.tag.specs.Stages.{stageGiven, stageNumber, scanNumber, laidNumber};
 ghost use Rattle.tag.specs.Picking.{picked};
-ghost use Rattle.sheet.specs.Scanning.{Placed};
+ghost use Rattle.sheet.specs.Scanning.{scanGiven, Placed};
 ghost use Rattle.tag.specs.Editing.{Copied, Editable};
 
-// A stage of a call: passed, or the number of its refusal.
-enum Stage {
-    Passed,
-    Refused(u32),
-}
-
-// The numbers that the stages' refusals give, 0 for none.
-
-fn stage_number(stage: Stage) -> u32
-    ensures { λ r. ⌜ r ≡ stageNumber stage ⌝ }
-{
-    match stage {
-        Stage::Passed => 0,
-        Stage::Refused(k) => k,
-    }
-}
+// The numbers that the refusals of scanning and laying down give, 0 for none.
 
 fn scan_number(scanned: Scanned) -> u32
-    ensures { λ r. ⌜ r ≡ scanNumber scanned ⌝ }
+    ensures { λ r. ⌜ r ≡ numberOf (scanGiven scanned) ⌝ }
 {
     match scanned {
         Scanned::Good(_) => 0,
@@ -53,7 +38,7 @@ fn scan_number(scanned: Scanned) -> u32
 }
 
 fn laid_number(laid: Laid) -> u32
-    ensures { λ r. ⌜ r ≡ laidNumber laid ⌝ }
+    ensures { λ r. ⌜ r ≡ numberOf (laidGiven laid) ⌝ }
 {
     match laid {
         Laid::Done(_) => 0,
@@ -140,7 +125,7 @@ pub fn write(sheet: &[u8], tag: &mut [u8], locks: &[u8]) -> WriteAnswer
 {
     let sized = size_stage(tag.len(), locks);
     let Stage::Passed = sized else {
-        return WriteAnswer::Refused(stage_number(sized));
+        return WriteAnswer::Refused(format::stage_number(sized));
     };
     let scanned = sheet::scan(sheet);
     let Scanned::Good(places) = scanned else {
@@ -288,7 +273,7 @@ pub fn edit(tag: &mut [u8], locks: &[u8], number: u32, bytes: &[u8], old: &mut [
     let n = tag.len();
     let sized = size_stage(n, locks);
     let Stage::Passed = sized else {
-        return EditAnswer::Refused(stage_number(sized));
+        return EditAnswer::Refused(format::stage_number(sized));
     };
     // Most tags are small, and clearing 2,048 bytes costs more than copying them.
     if n <= 256 {
@@ -320,6 +305,17 @@ fn edit_copy<'a>(
     edit_view(before, view, tag, locks, number, bytes, old)
 }
 
+// 13, as far as the survey tells it: in the writer's own layout the carried blocks stand in one piece.
+fn piece_stage(len: usize, size: usize) -> Stage
+    ensures { λ r. ⌜ stageGiven r ≡ need 13 (eqb len size) ⌝ }
+{
+    if len == size {
+        Stage::Passed
+    } else {
+        Stage::Refused(13)
+    }
+}
+
 // Edits what a view of the copy tells of.
 fn edit_view<'a>(
     before: &'a [u8],
@@ -333,11 +329,11 @@ fn edit_view<'a>(
     requires { ⌜ Copied (now before) (now tag) (now locks) × (judged (now before) ≡ got tt) × Viewed (now before) view ⌝ }
     ensures { λ r. ⌜ Edits (now (tag .entry)) (now (locks .entry)) number (now (bytes .entry)) (now (old .entry)) r (now (tag .exit)) (now (old .exit)) ⌝ }
 {
-    // In the writer's own layout the carried blocks stand in one piece.
     let blocks = view.blocks;
-    if blocks.len != view.size {
-        return EditAnswer::Refused(13);
-    }
+    let pieced = piece_stage(blocks.len, view.size);
+    let Stage::Passed = pieced else {
+        return EditAnswer::Refused(format::stage_number(pieced));
+    };
     let blocks_at = blocks.at;
     let blocks_end = blocks_at + blocks.len;
     let prefix = view.prefix;
@@ -409,7 +405,7 @@ fn edit_elements<'a>(
         bytes,
     );
     let Stage::Passed = stage else {
-        return EditAnswer::Refused(stage_number(stage));
+        return EditAnswer::Refused(format::stage_number(stage));
     };
     let laid = image::lay(
         pick(number, 1, bytes, item),

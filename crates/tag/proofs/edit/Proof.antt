@@ -4,10 +4,10 @@ use Prim.Native.Nat.{_≤_}
 use mathlib.Core.Bool.{true, _&&_}
 use lib.ListN.{length, replicate}
 use Rattle.format.specs.Pages.{pageSize, goodSize, lockMap}
+use Rattle.format.specs.Numbers.{numberOf, stageGiven}
 use Rattle.format.proofs.Tests.{and-l}
 use Rattle.format.proofs.Answers.{need-inv}
 use Rattle.format.proofs.Layouts.{size-most}
-use Rattle.tag.specs.Stages.{stageGiven, stageNumber}
 use Rattle.format.proofs.Pieces.{copy-fills, filled-within, filled-front}
 use Rattle.tag.proofs.Editor.{size-edits}
 use borrow.Author.Needs.{needs}
@@ -29,8 +29,8 @@ stage-number-requires c κs = search needs
 returns : tie.Need-returns
 returns c =
     let a = c .before .before .before .before .before .before .before .before .args in
-    let told = c .before .enum-told2 .given .1 in
-    size-edits (a .tag .now) (a .locks .now) (a .number) (a .bytes .now) (a .old .now) _ _ (sym (c .before .before .before .size-stage .ensures) ∙ ap stageGiven told) (c .stage-number .ensures ∙ ap stageNumber told)
+    let told = ap stageGiven (c .before .enum-told2 .given .1) in
+    size-edits (a .tag .now) (a .locks .now) (a .number) (a .bytes .now) (a .old .now) _ _ (sym (c .before .before .before .size-stage .ensures) ∙ told) (c .stage-number .ensures ∙ ap numberOf told)
 
 -- 1 is passed, so the tag has at most 2,048 bytes
 passed : (c : tie.After-enum-told) → let a = c .before .before .before .before .before .before .before .args in goodSize pageSize (length (a .tag .now)) && lockMap pageSize (a .locks .now) (length (a .tag .now)) ≡ true

@@ -2,10 +2,10 @@
 use mathlib.Core.Path.{_≡_, sym, ap, _∙_}
 use mathlib.Core.List.{_∷_, []}
 use Rattle.format.specs.Elements.{value}
+use Rattle.format.specs.Numbers.{numberOf, stageGiven}
 use Rattle.format.proofs.Tests.{and-l}
 use Rattle.format.proofs.Pieces.{copy-fills}
-use Rattle.tag.specs.Stages.{stageGiven, stageNumber}
-use Rattle.tag.specs.Stages.{laidNumber}
+use Rattle.image.specs.Laying.{laidGiven}
 use Rattle.tag.proofs.Seen.{seen-readable}
 use Rattle.tag.proofs.Editor.{Picked, picks-valued, picks-lays, held-valued, rowed-clear, late-edits, late-value, late-old, laid-refused-edits, laid-done-edits, held-element}
 use borrow.Author.Needs.{needs}
@@ -40,7 +40,7 @@ returns c =
     let h = s .pre in
     let told = c .before .enum-told2 .given .1 in
     late-edits t (a .locks .now) (a .item .now) (a .isil .now) (a .set .now) (a .usage .now) (a .media .now) (a .second .now) (a .other .now) (a .carried .now) h (a .number) (a .bytes .now) (a .old .now) _ _ (sym (c .before .before .before .edit-stage .ensures) ∙ ap stageGiven told)
-    (c .stage-number .ensures ∙ ap stageNumber told)
+    (c .stage-number .ensures ∙ ap numberOf (ap stageGiven told))
 
 pick-requires : tie.Need-pick-requires
 pick-requires c κs = search needs
@@ -109,7 +109,7 @@ returns-2 c =
     let p = sym (c .before .before .before .before .before .before .before .before .before .before .before .before .before .before .before .before .edit-stage .ensures) ∙ ap stageGiven (c .before .before .before .before .before .before .before .before .before .before .before .before .before .before .enum-told .given .1) in
     let told = c .before .enum-told3 .given .1 in
     let y = picks-lays (a .number) (a .bytes .now) (a .item .now) (a .isil .now) (a .set .now) (a .usage .now) (a .media .now) (a .second .now) (a .other .now) _ _ _ _ _ _ _ (picks (c .before .before .before .before .before .before)) t (a .locks .now) (a .carried .now ∷ []) _ _ (c .before .before .before .before .before .lay .ensures) in
-    laid-refused-edits t (a .locks .now) (a .item .now) (a .isil .now) (a .set .now) (a .usage .now) (a .media .now) (a .second .now) (a .other .now) (a .carried .now) h (a .number) (a .bytes .now) (a .old .now) p _ _ y _ _ told (c .laid-number .ensures ∙ ap laidNumber told)
+    laid-refused-edits t (a .locks .now) (a .item .now) (a .isil .now) (a .set .now) (a .usage .now) (a .media .now) (a .second .now) (a .other .now) (a .carried .now) h (a .number) (a .bytes .now) (a .old .now) p _ _ y _ _ told (c .laid-number .ensures ∙ ap numberOf (ap laidGiven told))
 
 element-requires : tie.Need-element-requires
 element-requires c κs = search needs

@@ -1,11 +1,15 @@
 -- `edit_view` lends the parts that the view tells of: they are the elements of the tag. Where the carried blocks do not stand in one piece
 -- the tag is not the writer's own layout.
-use mathlib.Core.Path.{_≡_, _∙_}
+use mathlib.Core.Path.{_≡_, sym, ap, _∙_}
 use Prim.Native.Nat.{_-_, _≤_, _<_}
 use native.Mathlib.Omega.{arith}
+use lib.Dec.{eqb}
 use lib.ListN.{length, take, replicate}
+use borrow.Author.Tests.{eqb-true}
 use Rattle.format.specs.Bytes.{filled}
+use Rattle.format.specs.Numbers.{numberOf, stageGiven}
 use Rattle.format.proofs.Tests.{bytes-all}
+use Rattle.format.proofs.Answers.{need-inv}
 use Rattle.format.proofs.Pieces.{stored-front, filled-within, filled-front}
 use Rattle.look.specs.View.{isilSeen}
 use Rattle.look.proofs.Holding.{cut-is}
@@ -31,11 +35,25 @@ most s = seen-most (s .args .before .now) (s .pre .1)
 bytes-two : (s : tie.Start) → (s .args .view .parts < 256) × (s .args .view .ordinal < 256)
 bytes-two s = (omega arith, omega arith)
 
+piece-stage-requires : tie.Need-piece-stage-requires
+piece-stage-requires c κs = search needs
+
+enum-told : tie.Need-enum-told
+enum-told c = search needs
+
+enum-told-2 : tie.Need-enum-told-2
+enum-told-2 c = search needs
+
+stage-number-requires : tie.Need-stage-number-requires
+stage-number-requires c κs = search needs
+
 returns : tie.Need-returns
 returns c =
-    let s = c .before .before .before .before .before .before .before .before .before in
+    let s = c .before .before .before .before .before .before .before .before .before .before in
     let a = s .args in
-    copy-loose-edits (a .before .now) (a .tag .now) (a .locks .now) (a .number) (a .bytes .now) (a .old .now) (s .pre .0) (s .pre .1) (λ o. c .if1 .taken (s .pre .2 .own o))
+    let told = ap stageGiven (c .before .enum-told2 .given .1) in
+    copy-loose-edits (a .before .now) (a .tag .now) (a .locks .now) (a .number) (a .bytes .now) (a .old .now) (a .view .blocks .len) (a .view .size) _ _ (s .pre .0) (s .pre .1) (s .pre .2 .own)
+    (sym (c .before .before .before .piece-stage .ensures) ∙ told) (c .stage-number .ensures ∙ ap numberOf told)
 
 add-blocks-end : tie.Need-add-blocks-end
 add-blocks-end c = search needs
@@ -117,6 +135,12 @@ part-edit-elements-start-6 c = search needs
 part-edit-elements-end-6 : tie.Need-part-edit-elements-end-6
 part-edit-elements-end-6 c = start (c .before .before .before .before .before .before .before .before .before .before .before .before .before .before .before .before) .pre .2 .blocks-inside
 
+-- the carried blocks stand in one piece
+pieced : (k : tie.After-isil-of) → start k .args .view .blocks .len ≡ start k .args .view .size
+pieced k =
+    let v = start k .args .view in
+    eqb-true (v .blocks .len) (v .size) (need-inv 13 (eqb (v .blocks .len) (v .size)) tt (sym (k .before .before .before .before .before .before .piece-stage .ensures) ∙ ap stageGiven (k .before .before .before .before .enum-told .given .1)))
+
 slices : (k : tie.After-isil-of) → SlicesSeen (start k .args .before .now) (start k .args .view) (take (k .isil-of .result - 0) (k .isil-of .last .1 .1 .1 .0))
 slices k =
     let s = start k in
@@ -130,7 +154,7 @@ edit-elements-requires c κs =
     let t = s .args .before .now in
     let v = s .args .view in
     copy-editable t (s .args .tag .now) (s .args .locks .now) _ _ _ _ _ _ _ _ (s .pre .0) (s .pre .1) (bytes-all t (λ i h. omega (arith, c .before .before .before .before .before .before .before .before .before .before .before .before .before .before .before .before .before .before .before .before .before .before .before .before .before .before .before .before .before .before .before .shared-slice-known .given i)))
-    (slices k) (cut-is t (v .blocks .at) (v .blocks .len) ∙ s .pre .2 .blocks (k .before .before .before .before .if1 .left))
+    (slices k) (cut-is t (v .blocks .at) (v .blocks .len) ∙ s .pre .2 .blocks (pieced k))
 
 same-length : tie.Need-same-length
 same-length c = search needs
@@ -145,6 +169,10 @@ pub edit-view-spec : {M : Type 1} → statement M
 edit-view-spec =
     tie.close
     (tie.spec
+    piece-stage-requires
+    enum-told
+    enum-told-2
+    stage-number-requires
     returns
     add-blocks-end
     isil-of-requires

@@ -3,8 +3,8 @@ use mathlib.Core.Path.{sym, ap, _∙_}
 use mathlib.Core.Bool.{_&&_}
 use lib.ListN.{length}
 use Rattle.format.specs.Pages.{pageSize, goodSize, lockMap}
+use Rattle.format.specs.Numbers.{numberOf, stageGiven}
 use Rattle.format.proofs.Answers.{need-inv}
-use Rattle.tag.specs.Stages.{stageGiven, stageNumber, scanNumber}
 use Rattle.sheet.specs.Scanning.{scanGiven}
 use Rattle.tag.proofs.Writer.{size-writes, scan-writes}
 use Rattle.sheet.proofs.Placed.{scan-good}
@@ -27,8 +27,8 @@ stage-number-requires c κs = search needs
 returns : tie.Need-returns
 returns c =
     let a = c .before .before .before .before .before .before .before .args in
-    let told = c .before .enum-told2 .given .1 in
-    size-writes (a .sheet .now) (a .tag .now) (a .locks .now) _ _ (sym (c .before .before .before .size-stage .ensures) ∙ ap stageGiven told) (c .stage-number .ensures ∙ ap stageNumber told)
+    let told = ap stageGiven (c .before .enum-told2 .given .1) in
+    size-writes (a .sheet .now) (a .tag .now) (a .locks .now) _ _ (sym (c .before .before .before .size-stage .ensures) ∙ told) (c .stage-number .ensures ∙ ap numberOf told)
 
 scan-requires : tie.Need-scan-requires
 scan-requires c κs = search needs
@@ -45,10 +45,10 @@ scan-number-requires c κs = search needs
 returns-2 : tie.Need-returns-2
 returns-2 c =
     let a = c .before .before .before .before .before .before .before .before .before .before .args in
-    let told = c .before .enum-told3 .given .1 in
+    let told = ap scanGiven (c .before .enum-told3 .given .1) in
     let z = need-inv 1 (goodSize pageSize (length (a .tag .now)) && lockMap pageSize (a .locks .now) (length (a .tag .now))) tt
     (sym (c .before .before .before .before .before .before .size-stage .ensures) ∙ ap stageGiven (c .before .before .before .before .enum-told .given .1)) in
-    scan-writes (a .sheet .now) (a .tag .now) (a .locks .now) _ _ z (sym (c .before .before .before .scan .ensures) ∙ ap scanGiven told) (c .scan-number .ensures ∙ ap scanNumber told)
+    scan-writes (a .sheet .now) (a .tag .now) (a .locks .now) _ _ z (sym (c .before .before .before .scan .ensures) ∙ told) (c .scan-number .ensures ∙ ap numberOf told)
 
 write-places-requires : tie.Need-write-places-requires
 write-places-requires c κs =

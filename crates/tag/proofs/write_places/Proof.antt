@@ -6,10 +6,11 @@ use Rattle.format.specs.Bytes.{joined}
 use Rattle.format.specs.Elements.{el}
 use Rattle.format.specs.Slices.{Slices}
 use Rattle.format.specs.Calls.{sheetContent}
+use Rattle.format.specs.Numbers.{numberOf}
 use Rattle.format.proofs.Tests.{and-l}
-use Rattle.tag.specs.Stages.{laidNumber}
 use Rattle.tag.proofs.Seen.{rest-part, slices-valued}
 use Rattle.look.proofs.Holding.{cut, held-cut}
+use Rattle.image.specs.Laying.{laidGiven}
 use Rattle.image.proofs.Alike.{lays-alike}
 use Rattle.tag.proofs.Writer.{slices-alike, sheet-elements, laid-refused-writes, laid-done-writes}
 use borrow.Author.Needs.{needs}
@@ -155,7 +156,7 @@ returns c =
     let w = c .before .before .before .before .before .before .before .before .before .before .before .before .before .before .before .before .before .before .before .before .before .before .before .before .before .before .before .before .before .before .before .before .pre in
     let told = c .before .enum-told .given .1 in
     laid-refused-writes (a .sheet .now) (a .tag .now) (a .locks .now) (w .1) (w .0 .right) (w .0 .values) _ _ (lays-alike (a .tag .now) (a .locks .now) (sheetContent (a .sheet .now)) _ _ _ (slices-alike (length (a .tag .now)) (sheetContent (a .sheet .now)) _ _ _ _ _ _ _ _ (slices (c .before .before .before .before .before .before)) (sheet-elements (a .sheet .now)) (row (c .before .before .before .before .before .before))) (c .before .before .before .before .before .lay .ensures)) _ _ told
-    (c .laid-number .ensures ∙ ap laidNumber told)
+    (c .laid-number .ensures ∙ ap numberOf (ap laidGiven told))
 
 same-length-2 : tie.Need-same-length-2
 same-length-2 c = search needs
