@@ -8,13 +8,13 @@ use native.Mathlib.Omega.{arith}
 use lib.Dec.{leb}
 use lib.ListN.{length, set, length-append}
 use lib.Seq.{sets-eq}
-use borrow.Author.Tests.{le-leb, lt-leb}
-use Rattle.format.specs.Answers.{got, refused, plain, need}
+use borrow.Author.Tests.{le-leb, leb-true}
+use Rattle.format.specs.Answers.{got, refused, plain, Step, need, inOrder}
 use Rattle.format.specs.Bytes.{le16, joined, filled}
 use Rattle.format.specs.Sheet.{Entry, heads, bodies, bodyAt, sheetOf, offsetsFit, fitting, carriedEntries}
 use Rattle.format.specs.declared.ReadAnswer.the-variants.{Done, Refused}
 use Rattle.format.proofs.Tests.{and-i}
-use Rattle.format.proofs.Answers.{next-ok, next-no, none-ok, afterwards-got, afterwards-refused}
+use Rattle.format.proofs.Answers.{next-ok, next-inv, none-ok, refused-with, afterwards-got, afterwards-refused}
 use Rattle.format.proofs.Sheets.{length-heads, length-sheet}
 use Rattle.format.proofs.Offsets.{bodies-append, carried-total}
 use Rattle.format.specs.Pieces.{stored}
@@ -96,16 +96,26 @@ sheet-fitting es h = offsets-fit (bodyAt (length es)) es (omega (arith, length-s
 
 -- ---- the answer
 
+-- 14 and 2, as the code tests them: the sheet ends at byte `end`, and the buffer has `room` bytes
+abbrev roomSteps : ℕ → ℕ → List Step
+roomSteps end room = need 14 (leb end 65535) ∷ need 2 (leb end room) ∷ []
+
+pub room-passed : (end room : ℕ) → inOrder {A = Unit {0}} (roomSteps end room) tt ≡ got tt → end ≤ room
+room-passed end room p = leb-true end room (next-inv 2 _ _ tt tt (next-inv 14 _ _ tt tt p .1) .0)
+
 module _ (es : List Entry) (buffer : List ℕ) (fit : length (sheetOf es) ≤ 65535) where
   abbrev room : Bool
   room = leb (length (sheetOf es)) (length buffer)
 
-  pub rendered-two : length buffer < length (sheetOf es) → Rendered es buffer (Refused 2) buffer
-  rendered-two h =
-      let e : rendering es buffer ≡ refused (plain 2) =
-      next-ok 14 (fitting es) (need 2 room ∷ []) (length (sheetOf es)) (sheet-fitting es fit)
-      ∙ next-no 2 room [] (length (sheetOf es)) (lt-leb (length (sheetOf es)) (length buffer) h) in
-      record { answered = sym e; left = sym (afterwards-refused (rendering es buffer) (plain 2) (filled (sheetOf es) buffer) buffer e) }
+  -- the number of a refusal goes out unchanged
+  pub rendered-refused : (end k m : ℕ) → length (sheetOf es) ≡ end → inOrder {A = Unit {0}} (roomSteps end (length buffer)) tt ≡ refused (plain k) → m ≡ k → Rendered es buffer (Refused m) buffer
+  rendered-refused end k m h r q =
+      let n : ℕ = length (sheetOf es) in
+      let f : fitting es ≡ leb n 65535 = sheet-fitting es fit ∙ sym (le-leb n 65535 fit) in
+      let p : inOrder {A = Unit {0}} (roomSteps n (length buffer)) tt ≡ refused (plain k) = rw h r in
+      let e : rendering es buffer ≡ refused (plain k) =
+      ap (λ (b : Bool). inOrder (need 14 b ∷ need 2 room ∷ []) n) f ∙ refused-with (roomSteps n (length buffer)) tt n (plain k) p in
+      record { answered = ap (λ (j : ℕ). refused (plain j)) q ∙ sym e; left = sym (afterwards-refused (rendering es buffer) (plain k) (filled (sheetOf es) buffer) buffer e) }
 
   pub rendered-done : (r : ℕ) (d : List ℕ) → length (sheetOf es) ≤ length buffer → r ≡ length (sheetOf es) → d ≡ filled (sheetOf es) buffer → Rendered es buffer (Done r) d
   rendered-done r d h hr hd =

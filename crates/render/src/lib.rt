@@ -1,12 +1,15 @@
 use format::ReadAnswer;
+use format::Stage;
 ghost use mathlib.Core.Path.{_≡_};
+ghost use mathlib.Core.List.{[], _∷_};
 ghost use Prim.Native.Nat.{_+_, _*_, _≤_};
 ghost use lib.ListN.{length};
-ghost use lib.Dec.{ltb};
-ghost use Rattle.format.specs.Answers.{got};
+ghost use lib.Dec.{leb, ltb};
+ghost use Rattle.format.specs.Answers.{got, need, inOrder};
 ghost use Rattle.format.specs.Bytes.{joined};
 ghost use Rattle.format.specs.Chain.{idOf};
 ghost use Rattle.format.specs.Reading.{walked, blocksIn};
+ghost use Rattle.format.specs.Numbers.{stageGiven};
 ghost use Rattle.format.specs.Sheet.{heads, bodies, carriedEntries, entries};
 ghost use Rattle.format.specs.Pieces.{stored};
 ghost use Rattle.render.specs.Rendering.{carriedOn, entryOf, countOf, numbered, Short, Rendered};
@@ -177,6 +180,19 @@ fn numbered_bytes(
     put_bytes(sheet, at23, other)
 }
 
+// 14 and 2 for a sheet that ends at `end`: no offset passes that, and the lent buffer has `room` bytes.
+fn room_stage(end: usize, room: usize) -> Stage
+    ensures { λ r. ⌜ stageGiven r ≡ inOrder (need 14 (leb end 65535) ∷ need 2 (leb end room) ∷ []) tt ⌝ }
+{
+    if 65535 < end {
+        return Stage::Refused(14);
+    }
+    if room < end {
+        return Stage::Refused(2);
+    }
+    Stage::Passed
+}
+
 // The sheet of the elements of a tag, whose chain is whole and has `count` carried blocks of `size` bytes. Answers 14 where an offset
 // would pass 65,535 and 2 where `sheet` is too short, and then stores nothing; else the sheet's length, and just that much is filled.
 // Where `blocks` is as long as the carried blocks it is they, one behind the other, and one copy does; else the chain is walked for them.
@@ -213,12 +229,10 @@ pub fn render(
         + other.len();
     let carried = offset + bytes;
     let end = carried + size;
-    if 65535 < end {
-        return ReadAnswer::Refused(14);
-    }
-    if sheet.len() < end {
-        return ReadAnswer::Refused(2);
-    }
+    let fit = room_stage(end, sheet.len());
+    let Stage::Passed = fit else {
+        return ReadAnswer::Refused(format::stage_number(fit));
+    };
     sheet[0] = (n % 256) as u8;
     sheet[1] = (n / 256 % 256) as u8;
     let next = numbered_heads(sheet, offset, item, isil, set, usage, media, second, other);
