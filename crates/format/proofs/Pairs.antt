@@ -1,5 +1,6 @@
 -- Two tables of worked examples, each under a single statement that is computed: the pairs that document 01 marks P, and the whole case
--- with the published examples B.1 and B.2 of the standard, each read and written, and what lock maps and C hosts get of them.
+-- with the published examples B.1 and B.2 of the standard and a tag with both markers, each read and written; edits, alphabets, lock maps,
+-- and what a C host gets.
 use Prim.Native.Nat.{ℕ, _+_, _-_, _/_}
 use mathlib.Core.Bool.{Bool, false, not, _&&_}
 use mathlib.Core.List.{List, [], _∷_, _++_}
@@ -114,6 +115,20 @@ sheet2 =
     6 ∷ 0 ∷ 1 ∷ 26 ∷ 0 ∷ 10 ∷ 3 ∷ 36 ∷ 0 ∷ 9 ∷ 4 ∷ 45 ∷ 0 ∷ 4 ∷ 5 ∷ 49 ∷ 0 ∷ 1 ∷ 19 ∷ 50 ∷ 0 ∷ 1 ∷ 255 ∷ 51 ∷ 0 ∷ 34 ∷
     item2 ++ (isilDk ++ (1 ∷ 0 ∷ 1 ∷ 0 ∷ 0x10 ∷ 1 ∷ acquisition))
 
+-- an item of 17 bytes and the owner OCLC-ABC stand in block 1: markers in the fields' first and third byte, on 68 bytes
+longItem : List ℕ
+longItem = 0x41 ∷ 0x42 ∷ 0x43 ∷ 0x44 ∷ 0x45 ∷ 0x46 ∷ 0x47 ∷ 0x48 ∷ 0x49 ∷ 0x4A ∷ 0x4B ∷ 0x4C ∷ 0x4D ∷ 0x4E ∷ 0x4F ∷ 0x50 ∷ 0x51 ∷ []
+
+isilOclc : List ℕ
+isilOclc = 0x4F ∷ 0x43 ∷ 0x4C ∷ 0x43 ∷ 0x2D ∷ 0x41 ∷ 0x42 ∷ 0x43 ∷ []
+
+markedTag : List ℕ
+markedTag =
+    0x11 ∷ 1 ∷ 1 ∷ 1 ∷ zeros 15 ++ (0x56 ∷ 0xC3 ∷ 0 ∷ 0 ∷ 1 ∷ zeros 10 ++ (31 ∷ 1 ∷ 0 ∷ 0x31 ∷ 0 ∷ longItem ++ (0 ∷ isilOclc ++ zeros 3)))
+
+markedSheet : List ℕ
+markedSheet = 4 ∷ 0 ∷ 1 ∷ 18 ∷ 0 ∷ 17 ∷ 3 ∷ 35 ∷ 0 ∷ 8 ∷ 4 ∷ 43 ∷ 0 ∷ 4 ∷ 5 ∷ 47 ∷ 0 ∷ 1 ∷ longItem ++ (isilOclc ++ (1 ∷ 0 ∷ 1 ∷ 0 ∷ 0x10 ∷ []))
+
 -- the owner of B.2 changed and changed back, the old element handed out each time
 changedBack : Bool
 changedBack =
@@ -126,13 +141,23 @@ changedBack =
     samePages (got x) (refused y) = false
     samePages (refused x) y = false
 
+editRefused : ℕ → Answer Edited → Bool
+editRefused n (got x) = false
+editRefused n (refused (plain k)) = eqb k n
+
 -- 256 + 1 is no element's number, and is not cut to a byte: the edit is refused 9
 wideNumber : Bool
-wideNumber = isValue (editing pageSize tag2 (zeros 19) 257 item2 (zeros 255) .answer)
-  where
-    isValue : Answer Edited → Bool
-    isValue (got x) = false
-    isValue (refused (plain k)) = eqb k 9
+wideNumber = editRefused 9 (editing pageSize tag2 (zeros 19) 257 item2 (zeros 255) .answer)
+
+-- a byte behind the end mark is not judged on reading, but no edit takes the tag: 13
+looseTag : Bool
+looseTag =
+    let loose : List ℕ = take 75 tag2 ++ (1 ∷ []) in
+    same (reading pageSize loose (zeros 85) .sheet) sheet2 && editRefused 13 (editing pageSize loose (zeros 19) 3 isilUs (zeros 255) .answer)
+
+-- 95 text bytes, 26 capitals, 65 unit characters
+alphabets : Bool
+alphabets = eqb (count textByte 256) 95 && eqb (count capital 256) 26 && eqb (count unitByte 256) 65
 
 -- a lock map of another length, or with a byte above 1, is refused 1, although no page would change; 1 locks a page
 lockMaps : Bool
@@ -156,8 +181,9 @@ resultsInC =
 
 pub examples : List Bool
 examples =
-    isSheetOf wholeSheet wholeTag ∷ isSheetOf sheet1 tag1 ∷ isSheetOf sheet2 tag2 ∷ changedBack ∷ wideNumber ∷ lockMaps ∷ resultsInC ∷ []
+    isSheetOf wholeSheet wholeTag ∷ isSheetOf sheet1 tag1 ∷ isSheetOf sheet2 tag2 ∷ isSheetOf markedSheet markedTag ∷ changedBack ∷ wideNumber ∷ looseTag ∷
+    alphabets ∷ lockMaps ∷ resultsInC ∷ []
 
 pub examples-hold : T (all (λ b. b) examples)
-unfolding examples isilUs wholeSheet wholeFront wholeTag isilDk fieldDk item1 tag1 sheet1 item2 acquisition tag2 sheet2 changedBack wideNumber lockMaps resultsInC need inOrder afterwards andThen orElse passed all same le16 word padWith trim strip upTo past xorAll joined goodSize lockMap differs lockedDiffers count changed lockedChanged crcBit crcBits crcByte crcFrom crc covered textByte text capital unitByte isilOf isil alternative isOwner goodItem prefixIn ownerSaid goodOwner itemField packed basicOwner ownerField wellFormed carriable walk chain libraryBlock otherBlocks payload lastField libraryIn goodLibrary libraryBytes sealed blockOne numbers setInfo shape form value placeIn place known put clash heads bodies sheetOf offsetsFit risingFrom rising cut entriesIn rightSheet find carriedIn contentOf goodValues entriesAt carriedEntries entries library front basic laidOut image fits goodFields agree ownerOn contentIn tagSteps readSteps reading layingSteps writeSteps writing ownLayout editSteps editing
+unfolding examples isilUs wholeSheet wholeFront wholeTag isilDk fieldDk item1 tag1 sheet1 item2 acquisition tag2 sheet2 longItem isilOclc markedTag markedSheet changedBack editRefused wideNumber looseTag alphabets lockMaps resultsInC need inOrder afterwards andThen orElse passed all same le16 word padWith trim strip upTo past xorAll joined goodSize lockMap differs lockedDiffers count changed lockedChanged crcBit crcBits crcByte crcFrom crc covered textByte text capital unitByte isilOf isil alternative isOwner goodItem prefixIn ownerSaid goodOwner itemField packed basicOwner ownerField wellFormed carriable walk chain libraryBlock otherBlocks payload lastField libraryIn goodLibrary libraryBytes sealed blockOne numbers setInfo shape form value placeIn place known put clash heads bodies sheetOf offsetsFit risingFrom rising cut entriesIn rightSheet find carriedIn contentOf goodValues entriesAt carriedEntries entries library front basic laidOut image fits goodFields agree ownerOn contentIn tagSteps readSteps reading layingSteps writeSteps writing ownLayout editSteps editing
 examples-hold = tt

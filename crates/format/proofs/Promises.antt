@@ -18,7 +18,7 @@ use Rattle.format.specs.Reading.{blocksIn, contentIn, Readable}
 use Rattle.format.specs.Calls.{sheetIn, readSteps, reading, sheetContent, writeSteps, writing, ownLayout, editSteps, Edited, editing}
 use Rattle.format.specs.Numbers.{readGiven, writeGiven, editGiven, readNumbers, writeNumbers, editNumbers, Each, oneOf, numberOf, Reads, Writes, Edits, ReadsC, WritesC, EditsC}
 use Rattle.format.specs.History.{Own, State, begin, run}
-use Rattle.format.specs.Demands.{Exact, ReadsExactly, WritesExactly, EditsExactly, ReadsUnchanged, WritesUnchanged, EditsUnchanged, ReadsBack, LaysDown, CountsWritten, CountsEdited, PutsElement, EveryHistory}
+use Rattle.format.specs.Demands.{Exact, ReadsExactly, WritesExactly, EditsExactly, ReadsUnchanged, WritesUnchanged, EditsUnchanged, ReadsBack, LaysDown, CountsWritten, CountsEdited, PutsElement, EveryHistory, SameIsNothing}
 use Rattle.format.specs.declared.ReadAnswer.{ReadAnswer}
 use Rattle.format.specs.declared.ReadAnswer.the-variants as read
 use Rattle.format.specs.declared.WriteAnswer.{WriteAnswer}
@@ -248,7 +248,7 @@ unfolding editing
 edit-puts p locks t c o n s buffer r e =
     let old : List ℕ = el (contentIn t) n in
     let new : List ℕ = image (length t) (put (contentIn t) n s) in
-    let a = passed-edit p locks t c o n s (length buffer) (record { pages = changed p t new; old = length old }) r e in
+    let a = passed-edit p locks t c o n s (length buffer) _ r e in
     let ci : contentIn t ≡ c = own-elements p locks t c o (a .0 .sized) in
     let tag : editing p t locks n s buffer .tag ≡ image (length t) (put c n s) =
     afterwards-got _ r new t e ∙ ap (λ (x : Content). image (length t) (put x n s)) ci in (
@@ -290,21 +290,21 @@ every-history p locks t c o es =
 pub write-open : (p : ℕ) (s t locks : List ℕ) (k : ℕ) → writing p s t locks .answer ≡ got k → k ≤ openPages locks
 unfolding writing
 write-open p s t locks k e =
-    let w = write-passed p s t locks (changed p t (image (length t) (sheetContent s))) k e in
-    rw (sym (w .1)) (laid-open p locks t (sheetContent s) (w .0 .laid) (and-r (goodSize p (length t)) (lockMap p locks (length t)) (w .0 .sized)))
+    let new : List ℕ = image (length t) (sheetContent s) in
+    let w = write-passed p s t locks _ k e .0 in
+    rw (writing-counts p s t locks k e ∙ ap (changed p t) (afterwards-got _ k new t e))
+    (laid-open p locks t (sheetContent s) (w .laid) (and-r (goodSize p (length t)) (lockMap p locks (length t)) (w .sized)))
 
 pub edit-open : (p : ℕ) (t locks : List ℕ) (n : ℕ) (s buffer : List ℕ) (r : Edited) → editing p t locks n s buffer .answer ≡ got r → r .pages ≤ openPages locks
 unfolding editing
 edit-open p t locks n s buffer r e =
-    let given : Edited = record { pages = changed p t (image (length t) (put (contentIn t) n s)); old = length (el (contentIn t) n) } in
-    let a = edit-passed p t locks n s (length buffer) given r e in
-    rw (sym (ap (λ (x : Edited). x .pages) (a .1)))
-    (laid-open p locks t (put (contentIn t) n s) (a .0 .laid) (and-r (goodSize p (length t)) (lockMap p locks (length t)) (a .0 .sized)))
+    let new : List ℕ = image (length t) (put (contentIn t) n s) in
+    let a = edit-passed p t locks n s (length buffer) _ r e .0 in
+    rw (editing-counts p t locks n s buffer r e ∙ ap (changed p t) (afterwards-got _ r new t e))
+    (laid-open p locks t (put (contentIn t) n s) (a .laid) (and-r (goodSize p (length t)) (lockMap p locks (length t)) (a .sized)))
 
 -- setting what is already there is accepted and changes 0 pages; where nothing is there, that is removing an absent element
-pub same-changes-nothing : (p : ℕ) (t locks : List ℕ) (c : Content) → Own c t → (n : ℕ) (buffer : List ℕ)
-    → goodSize p (length t) && lockMap p locks (length t) ≡ true → 255 ≤ length buffer → known n ≡ true
-    → (editing p t locks n (el c n) buffer .answer ≡ got (record { pages = 0; old = length (el c n) })) × (editing p t locks n (el c n) buffer .tag ≡ t)
+pub same-changes-nothing : SameIsNothing editing
 same-changes-nothing p t locks c o n buffer z room k =
     let s : List ℕ = el c n in
     let a = same-accepted p locks t c o n (length buffer) z room k in

@@ -1,9 +1,9 @@
 -- Wrong readers, writers and editors, and the demand that each breaks. Nothing is said here of `reading`, `writing` or `editing`: whatever
 -- program is of one of these kinds does not keep the demand (specs/Demands.antt), however its proof were made.
 use mathlib.Core.Path.{_≡_, refl, sym, ap, _∙_}
-use Prim.Native.Nat.{ℕ, _≤_, _<_}
+use Prim.Native.Nat.{ℕ, _/_, _<_}
 use native.Mathlib.Omega.{arith}
-use mathlib.Core.Bool.{true, false}
+use mathlib.Core.Bool.{true, false, _&&_}
 use mathlib.Core.List.{List, [], _∷_}
 use lib.Dec.{lit<}
 use lib.ListN.{length, getD, replicate}
@@ -19,7 +19,7 @@ use Rattle.format.specs.Layout.{library, front, basic, laidOut, image, f
 use Rattle.format.specs.Reading.{goodFields, agree, ownerOn, contentIn, tagSteps}
 use Rattle.format.specs.Calls.{readSteps, layingSteps, sheetContent, writeSteps, ownLayout, editSteps, Edited, Reader, Writer, Editor}
 use Rattle.format.specs.History.{Own, Edit, State, begin, noted, edited, run, Undoes, Undone}
-use Rattle.format.specs.Demands.{ReadsExactly, WritesExactly, EditsExactly, ReadsBack, LaysDown, CountsWritten, EveryHistory, Lived}
+use Rattle.format.specs.Demands.{ReadsExactly, WritesExactly, EditsExactly, ReadsBack, LaysDown, CountsWritten, EveryHistory, SameIsNothing}
 use Rattle.format.proofs.Tests.{never}
 use Rattle.format.proofs.Answers.{worked}
 use Rattle.format.proofs.Pairs.{zeros, isilUs, isilDk, fieldDk, wholeSheet, wholeFront, wholeTag, item2, acquisition, tag2, sheet2}
@@ -61,6 +61,7 @@ record Facts : Type 0 where
   whole-image : image 36 whole ≡ wholeTag
   whole-own : Own whole wholeTag
   book-own : Own book tag2
+  whole-locked : goodSize pageSize (length wholeTag) && lockMap pageSize (replicate (length wholeTag / pageSize) 1) (length wholeTag) ≡ true
   owner-there : isEmpty (el (contentIn owned) 3) ≡ false
   first-byte : getD wholeTag 0 0 ≡ 0x11
   item-byte : getD wholeTag 4 0 ≡ 0x31
@@ -93,6 +94,7 @@ facts = record {
   whole-image = refl;
   whole-own = record { sane = refl; fit = refl; lies = refl };
   book-own = record { sane = refl; fit = refl; lies = refl };
+  whole-locked = refl;
   owner-there = refl;
   first-byte = refl;
   item-byte = refl;
@@ -235,3 +237,14 @@ module _ (write : Writer) (edit : Editor) (exact : EditsExactly edit) (every : E
       let laid : image (length wholeTag) (put (put whole 3 isilUs) 3 isilDk) ≡ owned = ap (λ (k : ℕ). image k (put (put whole 3 isilUs) 3 isilDk)) (sym (l .long)) ∙ l .own .lies ∙ same-tag in
       let z : _≡_ {A = ℕ} 0x44 0x55 = sym (facts .new-owner-byte) ∙ ap (λ (x : List ℕ). getD x 21 0) laid ∙ facts .owner-byte in
       omega arith
+
+-- ==== an editor that refuses a locked page whose bytes would not change
+
+-- whatever it is asked, where every page is locked
+pub editor-refusing-locked : (edit : Editor)
+    → ((p : ℕ) (t : List ℕ) (n : ℕ) (s buffer : List ℕ) → (x : Refusal) × (edit p t (replicate (length t / p) 1) n s buffer .answer ≡ refused x))
+    → SameIsNothing edit → ⊥
+unfolding known place placeIn numbers
+editor-refusing-locked edit refuses same-is-nothing =
+    no-refusal (refuses pageSize wholeTag 1 (el whole 1) (zeros 255) .1)
+    (same-is-nothing pageSize wholeTag (replicate (length wholeTag / pageSize) 1) whole (facts .whole-own) 1 (zeros 255) (facts .whole-locked) (omega arith) refl .0)

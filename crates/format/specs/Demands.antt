@@ -8,7 +8,7 @@ use lib.ListN.{length}
 use Rattle.format.specs.Answers.{Answer, Refusal, got, refused, Step, Passed, FirstRefusal}
 use Rattle.format.specs.Bytes.{filled}
 use Rattle.format.specs.Pages.{goodSize, lockMap, changed, Kept}
-use Rattle.format.specs.Elements.{Content, el, put}
+use Rattle.format.specs.Elements.{Content, known, el, put}
 use Rattle.format.specs.Sheet.{sheetOf, entries}
 use Rattle.format.specs.Calls.{readSteps, sheetContent, writeSteps, editSteps, Edited, Reader, Writer, Editor}
 use Rattle.format.specs.History.{Own, Edit, State, begin, run, Undone}
@@ -98,3 +98,11 @@ pub record Lived (write : Writer) (edit : Editor) (p : ℕ) (locks t : List ℕ)
 abbrev pub EveryHistory : Writer → Editor → Type 0
 EveryHistory write edit =
     (p : ℕ) (locks t : List ℕ) (c : Content) → Own c t → (es : List Edit) → Lived write edit p locks t (run edit p locks (begin t c) es)
+
+-- Setting what is already there is accepted and changes 0 pages, whatever is locked. Where nothing is there, that is removing an absent
+-- element.
+abbrev pub SameIsNothing : Editor → Type 0
+SameIsNothing edit =
+    (p : ℕ) (t locks : List ℕ) (c : Content) → Own c t → (n : ℕ) (buffer : List ℕ)
+    → goodSize p (length t) && lockMap p locks (length t) ≡ true → 255 ≤ length buffer → known n ≡ true
+    → let o = edit p t locks n (el c n) buffer in (o .answer ≡ got (record { pages = 0; old = length (el c n) })) × (o .tag ≡ t)
