@@ -5,6 +5,9 @@ use format::WriteAnswer;
 ghost use mathlib.Core.Path.{_≡_};
 ghost use Rattle.format.specs.Numbers.{ReadsC, WritesC, EditsC, numberOf, readGiven, writeGiven, editGiven};
 
+// What a call returns whose work is done.
+const DONE: u32 = 0;
+
 // The number of a refusal, 0 for none.
 fn read_number(answer: ReadAnswer) -> u32
     ensures { λ r. ⌜ r ≡ numberOf (readGiven answer) ⌝ }
@@ -43,7 +46,7 @@ pub extern "C" fn urp_read(tag: &[u8], sheet: &mut [u8], used: &mut usize) -> u3
         return read_number(answer);
     };
     *used = length;
-    0
+    DONE
 }
 
 // Writes a sheet onto a tag. `pages` becomes the count of pages changed.
@@ -56,7 +59,7 @@ pub extern "C" fn urp_write(sheet: &[u8], tag: &mut [u8], locks: &[u8], pages: &
         return write_number(answer);
     };
     *pages = count;
-    0
+    DONE
 }
 
 // Edits one element of a tag. `pages` becomes the count of pages changed, `used` the old element's length.
@@ -82,5 +85,5 @@ pub extern "C" fn urp_edit(
     };
     *pages = count;
     *used = length;
-    0
+    DONE
 }

@@ -4,3 +4,4 @@ pub mod Places
 pub mod Laws
 pub mod Piece
 pub mod Turns
+pub mod One

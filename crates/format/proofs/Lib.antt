@@ -25,3 +25,4 @@ pub mod Histories
 pub mod Promises
 pub mod Pairs
 pub mod Wrong
+pub mod One

@@ -1,6 +1,6 @@
 -- Two tables of worked examples, each under a single statement that is computed: the pairs that document 01 marks P, and the whole case
--- with the published examples B.1 and B.2 of the standard and a tag with both markers, each read and written; edits, alphabets, lock maps,
--- and what a C host gets.
+-- with the published examples B.1 and B.2 of the standard, a tag with both markers and a full one, each read and written; edits, loose
+-- tags, alphabets, lock maps, and what a C host gets.
 use Prim.Native.Nat.{ℕ, _+_, _-_, _/_}
 use mathlib.Core.Bool.{Bool, false, not, _&&_}
 use mathlib.Core.List.{List, [], _∷_, _++_}
@@ -129,6 +129,27 @@ markedTag =
 markedSheet : List ℕ
 markedSheet = 4 ∷ 0 ∷ 1 ∷ 18 ∷ 0 ∷ 17 ∷ 3 ∷ 35 ∷ 0 ∷ 8 ∷ 4 ∷ 43 ∷ 0 ∷ 4 ∷ 5 ∷ 47 ∷ 0 ∷ 1 ∷ longItem ++ (isilOclc ++ (1 ∷ 0 ∷ 1 ∷ 0 ∷ 0x10 ∷ []))
 
+-- one part, usage 1 and nothing else in the basic block, with these blocks behind it
+withBlocks : List ℕ → List ℕ
+withBlocks s = 0x11 ∷ 1 ∷ 1 ∷ zeros 16 ++ (0xF9 ∷ 0xEB ∷ zeros 13 ++ s)
+
+-- a block 1 that ends with the tag: media 1, alternative item A
+fullTag : List ℕ
+fullTag = withBlocks (6 ∷ 1 ∷ 0 ∷ 0x47 ∷ 1 ∷ 0x41 ∷ [])
+
+fullSheet : List ℕ
+fullSheet = 4 ∷ 0 ∷ 4 ∷ 18 ∷ 0 ∷ 4 ∷ 5 ∷ 22 ∷ 0 ∷ 1 ∷ 19 ∷ 23 ∷ 0 ∷ 1 ∷ 22 ∷ 24 ∷ 0 ∷ 1 ∷ 1 ∷ 0 ∷ 1 ∷ 0 ∷ 0x10 ∷ 1 ∷ 0x41 ∷ []
+
+-- media 1 alone, in a block 1 with a 00 at its end; and two such blocks without it
+endingZero : List ℕ
+endingZero = withBlocks (6 ∷ 1 ∷ 0 ∷ 6 ∷ 1 ∷ 0 ∷ [])
+
+mediaSheet : List ℕ
+mediaSheet = 3 ∷ 0 ∷ 4 ∷ 14 ∷ 0 ∷ 4 ∷ 5 ∷ 18 ∷ 0 ∷ 1 ∷ 19 ∷ 19 ∷ 0 ∷ 1 ∷ 1 ∷ 0 ∷ 1 ∷ 0 ∷ 0x10 ∷ 1 ∷ []
+
+twice : List ℕ
+twice = withBlocks (5 ∷ 1 ∷ 0 ∷ 5 ∷ 1 ∷ 5 ∷ 1 ∷ 0 ∷ 5 ∷ 1 ∷ [])
+
 -- the owner of B.2 changed and changed back, the old element handed out each time
 changedBack : Bool
 changedBack =
@@ -149,11 +170,17 @@ editRefused n (refused (plain k)) = eqb k n
 wideNumber : Bool
 wideNumber = editRefused 9 (editing pageSize tag2 (zeros 19) 257 item2 (zeros 255) .answer)
 
--- a byte behind the end mark is not judged on reading, but no edit takes the tag: 13
-looseTag : Bool
-looseTag =
-    let loose : List ℕ = take 75 tag2 ++ (1 ∷ []) in
-    same (reading pageSize loose (zeros 85) .sheet) sheet2 && editRefused 13 (editing pageSize loose (zeros 19) 3 isilUs (zeros 255) .answer)
+-- read as that sheet, but no edit takes it: 13
+isLoose : List ℕ → List ℕ → Bool
+isLoose s t =
+    same (reading pageSize t (zeros (length s)) .sheet) s
+    && editRefused 13 (editing pageSize t (zeros (length t / pageSize)) 3 isilUs (zeros 255) .answer)
+
+-- a byte behind the end mark, a filler, a 00 at the end of block 1; and a second block 1 is damage
+looseTags : Bool
+looseTags =
+    isLoose sheet2 (take 75 tag2 ++ (1 ∷ [])) && isLoose sheet2 (take 73 tag2 ++ (1 ∷ 0 ∷ 0 ∷ [])) && isLoose mediaSheet endingZero
+    && refuses (reading pageSize twice [] .answer) 5
 
 -- 95 text bytes, 26 capitals, 65 unit characters
 alphabets : Bool
@@ -181,9 +208,10 @@ resultsInC =
 
 pub examples : List Bool
 examples =
-    isSheetOf wholeSheet wholeTag ∷ isSheetOf sheet1 tag1 ∷ isSheetOf sheet2 tag2 ∷ isSheetOf markedSheet markedTag ∷ changedBack ∷ wideNumber ∷ looseTag ∷
+    isSheetOf wholeSheet wholeTag ∷ isSheetOf sheet1 tag1 ∷ isSheetOf sheet2 tag2 ∷ isSheetOf markedSheet markedTag ∷ isSheetOf fullSheet fullTag ∷
+    changedBack ∷ wideNumber ∷ looseTags ∷
     alphabets ∷ lockMaps ∷ resultsInC ∷ []
 
 pub examples-hold : T (all (λ b. b) examples)
-unfolding examples isilUs wholeSheet wholeFront wholeTag isilDk fieldDk item1 tag1 sheet1 item2 acquisition tag2 sheet2 longItem isilOclc markedTag markedSheet changedBack editRefused wideNumber looseTag alphabets lockMaps resultsInC need inOrder afterwards andThen orElse passed all same le16 word padWith trim strip upTo past xorAll joined goodSize lockMap differs lockedDiffers count changed lockedChanged crcBit crcBits crcByte crcFrom crc covered textByte text capital unitByte isilOf isil alternative isOwner goodItem prefixIn ownerSaid goodOwner itemField packed basicOwner ownerField wellFormed carriable walk chain libraryBlock otherBlocks payload lastField libraryIn goodLibrary libraryBytes sealed blockOne numbers setInfo shape form value placeIn place known put clash heads bodies sheetOf offsetsFit risingFrom rising cut entriesIn rightSheet find carriedIn contentOf goodValues entriesAt carriedEntries entries library front basic laidOut image fits goodFields agree ownerOn contentIn tagSteps readSteps reading layingSteps writeSteps writing ownLayout editSteps editing
+unfolding examples isilUs wholeSheet wholeFront wholeTag isilDk fieldDk item1 tag1 sheet1 item2 acquisition tag2 sheet2 longItem isilOclc markedTag markedSheet withBlocks fullTag fullSheet endingZero mediaSheet twice changedBack editRefused wideNumber isLoose looseTags alphabets lockMaps resultsInC need inOrder afterwards andThen orElse passed all same le16 word padWith trim strip upTo past xorAll joined goodSize lockMap differs lockedDiffers count changed lockedChanged crcBit crcBits crcByte crcFrom crc covered textByte text capital unitByte isilOf isil alternative isOwner goodItem prefixIn ownerSaid goodOwner itemField packed basicOwner ownerField wellFormed carriable walk chain libraryBlock otherBlocks payload lastField libraryIn goodLibrary libraryBytes sealed blockOne numbers setInfo shape form value placeIn place known put clash heads bodies sheetOf offsetsFit risingFrom rising cut entriesIn rightSheet find carriedIn contentOf goodValues entriesAt carriedEntries entries library front basic laidOut image fits goodFields agree ownerOn contentIn tagSteps readSteps reading layingSteps writeSteps writing ownLayout editSteps editing
 examples-hold = tt

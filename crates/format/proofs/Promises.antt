@@ -8,15 +8,15 @@ use mathlib.Core.Bool.{true, false, _&&_}
 use mathlib.Core.List.{List}
 use lib.ListN.{length}
 use borrow.Author.Tests.{le-leb}
-use Rattle.format.specs.Answers.{Refusal, plain, got, refused, Step, inOrder, Passed, FirstRefusal}
+use Rattle.format.specs.Answers.{Answer, Refusal, plain, got, refused, Step, inOrder, Passed, FirstRefusal}
 use Rattle.format.specs.Bytes.{bytes, filled, joined}
-use Rattle.format.specs.Pages.{goodSize, lockMap, changed, openPages, Kept}
+use Rattle.format.specs.Pages.{pageSize, goodSize, lockMap, changed, openPages, Kept}
 use Rattle.format.specs.Elements.{Content, partsOf, ordinalOf, known, el, put, value, sound}
 use Rattle.format.specs.Sheet.{sheetOf, fitting, entriesIn, rightSheet, find, contentOf, goodValues, entries}
 use Rattle.format.specs.Layout.{ownerWidth, laidOut, image, fits}
 use Rattle.format.specs.Reading.{blocksIn, contentIn, Readable}
 use Rattle.format.specs.Calls.{sheetIn, readSteps, reading, sheetContent, writeSteps, writing, ownLayout, editSteps, Edited, editing}
-use Rattle.format.specs.Numbers.{readGiven, writeGiven, editGiven, readNumbers, writeNumbers, editNumbers, Each, oneOf, numberOf, Reads, Writes, Edits, ReadsC, WritesC, EditsC}
+use Rattle.format.specs.Numbers.{readGiven, writeGiven, editGiven, readNumbers, writeNumbers, editNumbers, Each, oneOf, numberOf, resultOf, Reads, Writes, Edits, ReadsC, WritesC, EditsC}
 use Rattle.format.specs.History.{Own, State, begin, run}
 use Rattle.format.specs.Demands.{Exact, ReadsExactly, WritesExactly, EditsExactly, ReadsUnchanged, WritesUnchanged, EditsUnchanged, ReadsBack, LaysDown, CountsWritten, CountsEdited, PutsElement, EveryHistory, SameIsNothing}
 use Rattle.format.specs.declared.ReadAnswer.{ReadAnswer}
@@ -45,7 +45,7 @@ use Rattle.format.proofs.Histories.{Good, history, begun}
 -- ==== Demand 1: one answer and one content for each buffer, on every input; a refusal changes nothing and gives only its number
 
 -- two outcomes that fit a call's contract are equal, answer and buffers
-read-same : (r r′ : ReadAnswer) → readGiven r ≡ readGiven r′ → r ≡ r′
+pub read-same : (r r′ : ReadAnswer) → readGiven r ≡ readGiven r′ → r ≡ r′
 read-same (read.Done n) (read.Done m) e = let k : n ≡ m = cc in ap read.Done k
 read-same (read.Done n) (read.Refused m) e = never (cc)
 read-same (read.Refused n) (read.Done m) e = never (cc)
@@ -265,6 +265,20 @@ editing-counts p t locks n s buffer r e =
     let new : List ℕ = image (length t) (put (contentIn t) n s) in
     let given : Edited = record { pages = changed p t new; old = length (el (contentIn t) n) } in
     sym (ap (λ (x : Edited). x .pages) (edit-passed p t locks n s (length buffer) given r e .1)) ∙ ap (changed p t) (sym (afterwards-got _ r new t e))
+
+-- So are the counts that a C host finds behind its pointers where 0 was returned.
+pub c-writing-counts : (s t locks : List ℕ) (pages r : ℕ) (tag : List ℕ) (pages′ : ℕ) → WritesC s t locks pages r tag pages′ → r ≡ 0 → pages′ ≡ changed pageSize t tag
+unfolding writing writeNumbers oneOf
+c-writing-counts s t locks pages r tag pages′ w e =
+    let d = zero-done writeNumbers (writeSteps pageSize s t locks) _ (write-order pageSize s t locks) refl (sym (w .answered) ∙ e) in
+    w .result ∙ ap (λ (a : Answer ℕ). resultOf (λ n. n) a pages) d ∙ writing-counts pageSize s t locks _ d ∙ ap (changed pageSize t) (sym (w .left))
+
+pub c-editing-counts : (t locks : List ℕ) (n : ℕ) (s buffer : List ℕ) (pages used r : ℕ) (tag old : List ℕ) (pages′ used′ : ℕ)
+    → EditsC t locks n s buffer pages used r tag old pages′ used′ → r ≡ 0 → pages′ ≡ changed pageSize t tag
+unfolding editing editNumbers oneOf
+c-editing-counts t locks n s buffer pages used r tag old pages′ used′ w e =
+    let d = zero-done editNumbers (editSteps pageSize (length buffer) t locks n s) _ (edit-order pageSize (length buffer) t locks n s) refl (sym (w .answered) ∙ e) in
+    w .result ∙ ap (λ (a : Answer Edited). resultOf (λ x. x .pages) a pages) d ∙ editing-counts pageSize t locks n s buffer _ d ∙ ap (changed pageSize t) (sym (w .left))
 
 -- Start with a tag in the writer's own layout, a lock map that stays the same, and a buffer of 255 bytes or more for the old element
 -- at every call. Make any edits in any number, refused ones among them. After each, the tag is byte for byte what the writer would lay

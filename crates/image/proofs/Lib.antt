@@ -4,3 +4,4 @@ pub mod OwnerForms
 pub mod BlockBytes
 pub mod Placing
 pub mod Alike
+pub mod One

@@ -11,23 +11,30 @@ use Rattle.format.specs.Crc.{crcBit, crcBits, crcByte, crcFrom, crc, covered}
 use Rattle.format.specs.Fields.{textByte, text, capital, unitByte, isilOf, isil, alternative, isOwner, goodItem, prefixIn, ownerSaid, goodOwner}
 use Rattle.format.specs.Chain.{wellFormed, walk, chain, libraryBlock, otherBlocks, payload, lastField, libraryIn, goodLibrary}
 use Rattle.format.specs.Elements.{numbers}
-use Rattle.format.specs.Sheet.{Entry, heads, bodies, sheetOf, offsetsFit, entriesAt, carriedEntries, entries}
+use Rattle.format.specs.Sheet.{heads, bodies, sheetOf, offsetsFit, entriesAt, carriedEntries, entries}
 use Rattle.format.specs.Reading.{goodFields, agree, ownerOn, contentIn, tagSteps}
 use Rattle.format.specs.Calls.{readSteps}
-use Rattle.listing.specs.Listing.{counted, refusedWord, elementsText, listed, listing}
+use Rattle.listing.specs.Listing.{digits, decimal, hexDigit, hexOf, lineOf, linesOf, elementsText, listed, listing}
 
 abbrev zeros : ℕ → List ℕ
 zeros n = replicate n 0
-
-abbrev entry : ℕ → List ℕ → Entry
-entry n s = record { number = n; bytes = s }
 
 -- the whole case
 abbrev pub wholeTag : List ℕ
 wholeTag = 0x11 ∷ 1 ∷ 1 ∷ 0x42 ∷ 0x31 ∷ zeros 14 ++ (0xD9 ∷ 0x4B ∷ zeros 15)
 
-abbrev pub wholeEntries : List Entry
-wholeEntries = entry 1 (0x42 ∷ 0x31 ∷ []) ∷ entry 4 (1 ∷ 0 ∷ 1 ∷ 0 ∷ []) ∷ entry 5 (0x10 ∷ []) ∷ []
+-- the four lines that document 01 prints for it, byte by byte
+abbrev wholeText : List ℕ
+wholeText =
+    -- elements 3
+    0x65 ∷ 0x6C ∷ 0x65 ∷ 0x6D ∷ 0x65 ∷ 0x6E ∷ 0x74 ∷ 0x73 ∷ 0x20 ∷ 0x33 ∷ 0x0A ∷
+    -- 1 4231
+    0x31 ∷ 0x20 ∷ 0x34 ∷ 0x32 ∷ 0x33 ∷ 0x31 ∷ 0x0A ∷
+    -- 4 01000100
+    0x34 ∷ 0x20 ∷ 0x30 ∷ 0x31 ∷ 0x30 ∷ 0x30 ∷ 0x30 ∷ 0x31 ∷ 0x30 ∷ 0x30 ∷ 0x0A ∷
+    -- 5 10
+    0x35 ∷ 0x20 ∷ 0x31 ∷ 0x30 ∷ 0x0A ∷
+    []
 
 -- B.2: 1000000136 of DK-718500, a book, with block 1 and an acquisition block
 abbrev item : List ℕ
@@ -45,15 +52,38 @@ abbrev pub bookTag : List ℕ
 bookTag =
     0x11 ∷ 1 ∷ 1 ∷ item ++ (zeros 6 ++ (0x36 ∷ 0x15 ∷ 0x44 ∷ 0x4B ∷ unit ++ (zeros 5 ++ (5 ∷ 1 ∷ 0 ∷ 5 ∷ 1 ∷ acquisition ++ zeros 3))))
 
-abbrev pub bookEntries : List Entry
-bookEntries =
-    entry 1 item ∷ entry 3 (0x44 ∷ 0x4B ∷ 0x2D ∷ unit) ∷ entry 4 (1 ∷ 0 ∷ 1 ∷ 0 ∷ []) ∷ entry 5 (0x10 ∷ []) ∷ entry 19 (1 ∷ []) ∷ entry 255 acquisition ∷ []
+-- and its seven lines
+abbrev bookText : List ℕ
+bookText =
+    -- elements 6
+    0x65 ∷ 0x6C ∷ 0x65 ∷ 0x6D ∷ 0x65 ∷ 0x6E ∷ 0x74 ∷ 0x73 ∷ 0x20 ∷ 0x36 ∷ 0x0A ∷
+    -- 1 31303030303030313336
+    0x31 ∷ 0x20 ∷ 0x33 ∷ 0x31 ∷ 0x33 ∷ 0x30 ∷ 0x33 ∷ 0x30 ∷ 0x33 ∷ 0x30 ∷ 0x33 ∷ 0x30 ∷ 0x33 ∷ 0x30 ∷ 0x33 ∷ 0x30 ∷ 0x33 ∷ 0x31 ∷ 0x33 ∷ 0x33 ∷ 0x33 ∷ 0x36 ∷ 0x0A ∷
+    -- 3 444B2D373138353030
+    0x33 ∷ 0x20 ∷ 0x34 ∷ 0x34 ∷ 0x34 ∷ 0x42 ∷ 0x32 ∷ 0x44 ∷ 0x33 ∷ 0x37 ∷ 0x33 ∷ 0x31 ∷ 0x33 ∷ 0x38 ∷ 0x33 ∷ 0x35 ∷ 0x33 ∷ 0x30 ∷ 0x33 ∷ 0x30 ∷ 0x0A ∷
+    -- 4 01000100
+    0x34 ∷ 0x20 ∷ 0x30 ∷ 0x31 ∷ 0x30 ∷ 0x30 ∷ 0x30 ∷ 0x31 ∷ 0x30 ∷ 0x30 ∷ 0x0A ∷
+    -- 5 10
+    0x35 ∷ 0x20 ∷ 0x31 ∷ 0x30 ∷ 0x0A ∷
+    -- 19 01
+    0x31 ∷ 0x39 ∷ 0x20 ∷ 0x30 ∷ 0x31 ∷ 0x0A ∷
+    -- 255 22020071426F67766F676E656E003132333435363738393000006137383936353663
+    0x32 ∷ 0x35 ∷ 0x35 ∷ 0x20 ∷ 0x32 ∷ 0x32 ∷ 0x30 ∷ 0x32 ∷ 0x30 ∷ 0x30 ∷ 0x37 ∷ 0x31 ∷ 0x34 ∷ 0x32 ∷ 0x36 ∷ 0x46 ∷ 0x36 ∷ 0x37 ∷ 0x37 ∷ 0x36 ∷ 0x36 ∷ 0x46 ∷ 0x36 ∷ 0x37 ∷ 0x36 ∷ 0x45 ∷ 0x36 ∷ 0x35 ∷ 0x36 ∷ 0x45 ∷ 0x30 ∷ 0x30 ∷ 0x33 ∷ 0x31 ∷ 0x33 ∷ 0x32 ∷ 0x33 ∷ 0x33 ∷ 0x33 ∷ 0x34 ∷ 0x33 ∷ 0x35 ∷ 0x33 ∷ 0x36 ∷ 0x33 ∷ 0x37 ∷ 0x33 ∷ 0x38 ∷ 0x33 ∷ 0x39 ∷ 0x33 ∷ 0x30 ∷ 0x30 ∷ 0x30 ∷ 0x30 ∷ 0x30 ∷ 0x36 ∷ 0x31 ∷ 0x33 ∷ 0x37 ∷ 0x33 ∷ 0x38 ∷ 0x33 ∷ 0x39 ∷ 0x33 ∷ 0x36 ∷ 0x33 ∷ 0x35 ∷ 0x33 ∷ 0x36 ∷ 0x36 ∷ 0x33 ∷ 0x0A ∷
+    []
 
-pub examples :
-    (listing wholeTag ≡ elementsText wholeEntries)
-    × (listing bookTag ≡ elementsText bookEntries)
-    × (listing (zeros 36) ≡ counted refusedWord 3)
-    × (listing [] ≡ counted refusedWord 1)
-    × (listing (zeros 2049) ≡ counted refusedWord 1)
-unfolding need inOrder andThen orElse passed all same le16 word padWith trim strip upTo past xorAll joined goodSize crcBit crcBits crcByte crcFrom crc covered textByte text capital unitByte isilOf isil alternative isOwner goodItem prefixIn ownerSaid goodOwner wellFormed walk chain libraryBlock otherBlocks payload lastField libraryIn goodLibrary numbers heads bodies sheetOf offsetsFit entriesAt carriedEntries entries goodFields agree ownerOn contentIn tagSteps readSteps listed listing
+-- a refused tag prints one line
+abbrev refused1 : List ℕ
+refused1 =
+    -- refused 1
+    0x72 ∷ 0x65 ∷ 0x66 ∷ 0x75 ∷ 0x73 ∷ 0x65 ∷ 0x64 ∷ 0x20 ∷ 0x31 ∷ 0x0A ∷
+    []
+
+abbrev refused3 : List ℕ
+refused3 =
+    -- refused 3
+    0x72 ∷ 0x65 ∷ 0x66 ∷ 0x75 ∷ 0x73 ∷ 0x65 ∷ 0x64 ∷ 0x20 ∷ 0x33 ∷ 0x0A ∷
+    []
+
+pub examples : (listing wholeTag ≡ wholeText) × (listing bookTag ≡ bookText) × (listing (zeros 36) ≡ refused3) × (listing [] ≡ refused1) × (listing (zeros 2049) ≡ refused1)
+unfolding need inOrder andThen orElse passed all same le16 word padWith trim strip upTo past xorAll joined goodSize crcBit crcBits crcByte crcFrom crc covered textByte text capital unitByte isilOf isil alternative isOwner goodItem prefixIn ownerSaid goodOwner wellFormed walk chain libraryBlock otherBlocks payload lastField libraryIn goodLibrary numbers heads bodies sheetOf offsetsFit entriesAt carriedEntries entries goodFields agree ownerOn contentIn tagSteps readSteps digits decimal hexDigit hexOf lineOf linesOf elementsText listed listing
 examples = (refl, refl, refl, refl, refl)

@@ -5,3 +5,4 @@ pub mod Printed
 pub mod Examples
 pub mod Room
 pub mod Longest
+pub mod One

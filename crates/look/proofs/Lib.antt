@@ -1,3 +1,4 @@
 pub mod Holding
 pub mod Finding
 pub mod Looking
+pub mod One

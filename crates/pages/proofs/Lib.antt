@@ -3,3 +3,4 @@ pub mod Words
 pub mod Counting
 pub mod Storing
 pub mod Outcome
+pub mod One

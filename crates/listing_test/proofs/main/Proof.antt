@@ -1,5 +1,4 @@
 -- `main`: each text is the definition's, computed.
-use Rattle.listing.specs.Listing.{digits, decimal, hexDigit, hexOf, lineOf, linesOf, elementsText}
 use Rattle.listing.proofs.Examples.{examples}
 use borrow.Author.Needs.{needs}
 use Rattle.listing_test.proofs.main.Statement.{statement}
@@ -12,7 +11,6 @@ lists-requires : tie.Need-lists-requires
 lists-requires c κs = search needs
 
 expect-requires : tie.Need-expect-requires
-unfolding elementsText linesOf lineOf hexOf hexDigit decimal digits
 expect-requires c κs = c .lists .ensures .1 (examples .0)
 
 slice-aggregate-lists-2 : tie.Need-slice-aggregate-lists-2
@@ -22,7 +20,6 @@ lists-requires-2 : tie.Need-lists-requires-2
 lists-requires-2 c κs = search needs
 
 expect-requires-2 : tie.Need-expect-requires-2
-unfolding elementsText linesOf lineOf hexOf hexDigit decimal digits
 expect-requires-2 c κs = c .lists2 .ensures .1 (examples .1)
 
 slice-aggregate-lists-3 : tie.Need-slice-aggregate-lists-3
@@ -35,7 +32,6 @@ lists-requires-3 : tie.Need-lists-requires-3
 lists-requires-3 c κs = search needs
 
 expect-requires-3 : tie.Need-expect-requires-3
-unfolding decimal digits
 expect-requires-3 c κs = c .lists3 .ensures .1 (examples .2)
 
 slice-aggregate-lists-5 : tie.Need-slice-aggregate-lists-5
@@ -48,7 +44,6 @@ lists-requires-4 : tie.Need-lists-requires-4
 lists-requires-4 c κs = search needs
 
 expect-requires-4 : tie.Need-expect-requires-4
-unfolding decimal digits
 expect-requires-4 c κs = c .lists4 .ensures .1 (examples .3)
 
 slice-aggregate-lists-7 : tie.Need-slice-aggregate-lists-7
@@ -61,7 +56,6 @@ lists-requires-5 : tie.Need-lists-requires-5
 lists-requires-5 c κs = search needs
 
 expect-requires-5 : tie.Need-expect-requires-5
-unfolding decimal digits
 expect-requires-5 c κs = c .lists5 .ensures .1 (examples .4)
 
 returns : tie.Need-returns

@@ -1,0 +1,24 @@
+-- The exported calls: one number, one content of each buffer, and one value behind each pointer.
+use mathlib.Core.Path.{_≡_}
+use Prim.Native.Nat.{ℕ}
+use mathlib.Core.List.{List}
+use Rattle.format.specs.Numbers.{ReadsC, WritesC, EditsC}
+use Rattle.format.proofs.Promises.{c-reads-one, c-writes-one, c-edits-one}
+
+pub urp-read-one : (tag sheet : List ℕ) (used r r₂ : ℕ) (sheet′ sheet₂ : List ℕ) (used′ used₂ : ℕ)
+    → ReadsC tag sheet used r sheet′ used′
+    → ReadsC tag sheet used r₂ sheet₂ used₂
+    → (r ≡ r₂) × (sheet′ ≡ sheet₂) × (used′ ≡ used₂)
+urp-read-one = c-reads-one
+
+pub urp-write-one : (sheet tag locks : List ℕ) (pages r r₂ : ℕ) (tag′ tag₂ : List ℕ) (pages′ pages₂ : ℕ)
+    → WritesC sheet tag locks pages r tag′ pages′
+    → WritesC sheet tag locks pages r₂ tag₂ pages₂
+    → (r ≡ r₂) × (tag′ ≡ tag₂) × (pages′ ≡ pages₂)
+urp-write-one = c-writes-one
+
+pub urp-edit-one : (tag locks : List ℕ) (number : ℕ) (value old : List ℕ) (pages used r r₂ : ℕ) (tag′ tag₂ old′ old₂ : List ℕ) (pages′ pages₂ used′ used₂ : ℕ)
+    → EditsC tag locks number value old pages used r tag′ old′ pages′ used′
+    → EditsC tag locks number value old pages used r₂ tag₂ old₂ pages₂ used₂
+    → (r ≡ r₂) × (tag′ ≡ tag₂) × (old′ ≡ old₂) × (pages′ ≡ pages₂) × (used′ ≡ used₂)
+urp-edit-one = c-edits-one

@@ -1,0 +1,28 @@
+-- Each public function of `fields` has one answer.
+use mathlib.Core.Path.{_≡_, sym, _∙_}
+use mathlib.Core.Bool.{Bool}
+use Prim.Native.Nat.{ℕ}
+use mathlib.Core.List.{List}
+use Rattle.format.specs.Fields.{text, isil, alternative}
+use Rattle.fields.specs.Forms.{itemForm, ownerForm, libraryForm}
+use Rattle.fields.specs.declared.ItemField.{ItemField}
+use Rattle.fields.specs.declared.OwnerField.{OwnerField}
+use Rattle.fields.specs.declared.LibraryField.{LibraryField}
+
+pub text-one : (s : List ℕ) (r r₂ : Bool) → r ≡ text s → r₂ ≡ text s → r ≡ r₂
+text-one s r r₂ a b = a ∙ sym b
+
+pub isil-one : (s : List ℕ) (r r₂ : Bool) → r ≡ isil s → r₂ ≡ isil s → r ≡ r₂
+isil-one s r r₂ a b = a ∙ sym b
+
+pub alternative-one : (s : List ℕ) (r r₂ : Bool) → r ≡ alternative s → r₂ ≡ alternative s → r ≡ r₂
+alternative-one s r r₂ a b = a ∙ sym b
+
+pub item-in-one : (field : List ℕ) (r r₂ : ItemField) → r ≡ itemForm field → r₂ ≡ itemForm field → r ≡ r₂
+item-in-one field r r₂ a b = a ∙ sym b
+
+pub owner-in-one : (field : List ℕ) (r r₂ : OwnerField) → r ≡ ownerForm field → r₂ ≡ ownerForm field → r ≡ r₂
+owner-in-one field r r₂ a b = a ∙ sym b
+
+pub library-in-one : (block : List ℕ) (r r₂ : LibraryField) → r ≡ libraryForm block → r₂ ≡ libraryForm block → r ≡ r₂
+library-in-one block r r₂ a b = a ∙ sym b
