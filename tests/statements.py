@@ -5,7 +5,8 @@ For each `pub fn` of crates/: it has an `ensures`; it has no `requires`, unless 
 outcomes that fit its contract are equal, answer and buffers, unless docs/EXCEPTIONS.txt lists it as answering more than one. The theorem of
 `crate::some_function` is `some-function-one` in crates/CRATE/proofs/One.antt. It has the contract itself, word for word, as its two premises:
 the contents of a lent slice `x` at entry are written x, those of a `&mut` x at exit x′ in the first outcome and x₂ in the second, and the
-answers r and r₂. It concludes that the answers are equal, and so is each `&mut` at exit.
+answers r and r₂. It concludes that the answers are equal, and so is each `&mut` at exit. What the contract's names mean is what they mean
+there: both files bring each of them in from the same module.
 
 A line of docs/EXCEPTIONS.txt is `crate::function: requires: grounds` or `crate::function: answers: grounds`; '#' starts a comment. Nothing in it
 excuses a missing `ensures`, nor a `requires` on what a host or a program calls. A listed function that needs no exception is a fault too.
@@ -19,6 +20,7 @@ PUBLIC = re.compile(r'\bpub\s+(?:extern\s+"C"\s+)?fn\s+(\w+)')
 CALLED_FROM_OUTSIDE = {'tag', 'capi', 'listing'}
 CLAUSE = re.compile(r'\s*(requires|ensures)\b[^{]*')
 RESULT = re.compile(r'\s*->\s*([^{}]*?)(?=\s*(?:requires\b|ensures\b|\{))')
+USED = re.compile(r'(?m)^(?:ghost )?use ([^;{\n]+)\.\{([^}]*)\}')
 ENSURED = re.compile(r'\s*λ\s*(\w+)\.\s*⌜(.*)⌝\s*', re.S)
 KINDS = ('requires', 'answers')
 
@@ -37,11 +39,16 @@ def words(text):
     return ' '.join(text.split())
 
 
+def used(text):
+    """The module that each name of a file is brought in from."""
+    return {name.strip(): module for module, names in USED.findall(text) for name in names.split(',')}
+
+
 class Function:
     """A public function: its name, its parameters that are lent to be changed, its result's type, its clauses."""
 
     def __init__(self, crate, text, match):
-        self.crate, self.name = crate, match.group(1)
+        self.crate, self.name, self.used = crate, match.group(1), used(text)
         at = text.index('(', match.end())
         end = closed(text, at)
         parameters = text[at + 1:end - 1]
@@ -76,6 +83,11 @@ class Function:
         body = re.sub(rf'(?<![\w.·-]){answer}(?![\w′₂-])', 'r₂' if second else 'r', body)
         return words(re.sub(r'\((\w+[′₂]?)\)', r'\1', body))
 
+    def meanings(self):
+        """The names of the contract that are brought in, and from where."""
+        found = set(re.findall(r"[^\s(){}]+", ' '.join(self.ensured())))
+        return {name: module for name, module in self.used.items() if name.strip('_') in found}
+
     def conclusion(self):
         parts = ['now r ≡ now r₂', 'ptr r ≡ ptr r₂'] if self.result.startswith('&') else ['r ≡ r₂'] if self.result else []
         parts += [f'{name}′ ≡ {name}₂' for name in self.lent]
@@ -102,12 +114,14 @@ def theorems(crate):
         raise SystemExit(f'statements: {path.parent / "Lib.antt"} does not name One')
     text = re.sub(r'(?m)^--.*\n', '', path.read_text(encoding='utf8'))
     found = re.findall(r'(?ms)^pub ([\w-]+) :(.*?)(?=^\S)', text)
-    return {name: words(statement) for name, statement in found}
+    return {name: (words(statement), used(text)) for name, statement in found}
 
 
-def states_one(function, statement):
+def states_one(function, statement, meanings):
     """Does the statement say of this function's contract that one outcome fits it?"""
     if len(function.ensured()) != 1 or not ENSURED.fullmatch(function.ensured()[0]):
+        return False
+    if any(meanings.get(name) != module for name, module in function.meanings().items()):
         return False
     first, second = function.premise(False), function.premise(True)
     if ' × ' in first:
@@ -146,10 +160,10 @@ def main():
                 used.add((function.full, 'requires'))
             else:
                 wrong.append(f'{function.full}: has a requires')
-        statement = theorems(function.crate).get(function.theorem())
-        if statement and states_one(function, statement):
+        theorem = theorems(function.crate).get(function.theorem())
+        if theorem and states_one(function, *theorem):
             proved += 1
-        elif statement:
+        elif theorem:
             wrong.append(f'{function.full}: {function.theorem()} does not say of its contract that one outcome fits')
         elif (function.full, 'answers') in listed and function.crate not in CALLED_FROM_OUTSIDE:
             used.add((function.full, 'answers'))

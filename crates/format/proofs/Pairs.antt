@@ -1,6 +1,6 @@
 -- Two tables of worked examples, each under a single statement that is computed: the pairs that document 01 marks P, and the whole case
--- with the published examples B.1 and B.2 of the standard, a tag with both markers and a full one, each read and written; edits, loose
--- tags, alphabets, lock maps, and what a C host gets.
+-- with the published examples B.1 and B.2 of the standard, a tag with both markers, a full one and one with a plain block, each read and
+-- written; edits, loose tags, alphabets, values at their bounds, wrong sheets, lock maps, and what a C host gets.
 use Prim.Native.Nat.{ℕ, _+_, _-_, _/_}
 use mathlib.Core.Bool.{Bool, false, not, _&&_}
 use mathlib.Core.List.{List, [], _∷_, _++_}
@@ -115,7 +115,7 @@ sheet2 =
     6 ∷ 0 ∷ 1 ∷ 26 ∷ 0 ∷ 10 ∷ 3 ∷ 36 ∷ 0 ∷ 9 ∷ 4 ∷ 45 ∷ 0 ∷ 4 ∷ 5 ∷ 49 ∷ 0 ∷ 1 ∷ 19 ∷ 50 ∷ 0 ∷ 1 ∷ 255 ∷ 51 ∷ 0 ∷ 34 ∷
     item2 ++ (isilDk ++ (1 ∷ 0 ∷ 1 ∷ 0 ∷ 0x10 ∷ 1 ∷ acquisition))
 
--- an item of 17 bytes and the owner OCLC-ABC stand in block 1: markers in the fields' first and third byte, on 68 bytes
+-- an item of 17 bytes, the owner OCLC-ABC and usage 35 stand in block 1: markers in the fields' first and third byte, on 68 bytes
 longItem : List ℕ
 longItem = 0x41 ∷ 0x42 ∷ 0x43 ∷ 0x44 ∷ 0x45 ∷ 0x46 ∷ 0x47 ∷ 0x48 ∷ 0x49 ∷ 0x4A ∷ 0x4B ∷ 0x4C ∷ 0x4D ∷ 0x4E ∷ 0x4F ∷ 0x50 ∷ 0x51 ∷ []
 
@@ -124,28 +124,35 @@ isilOclc = 0x4F ∷ 0x43 ∷ 0x4C ∷ 0x43 ∷ 0x2D ∷ 0x41 ∷ 0x42 ∷ 0x43 �
 
 markedTag : List ℕ
 markedTag =
-    0x11 ∷ 1 ∷ 1 ∷ 1 ∷ zeros 15 ++ (0x56 ∷ 0xC3 ∷ 0 ∷ 0 ∷ 1 ∷ zeros 10 ++ (31 ∷ 1 ∷ 0 ∷ 0x31 ∷ 0 ∷ longItem ++ (0 ∷ isilOclc ++ zeros 3)))
+    0x31 ∷ 1 ∷ 1 ∷ 1 ∷ zeros 15 ++ (0xFD ∷ 0x5A ∷ 0 ∷ 0 ∷ 1 ∷ zeros 10 ++ (33 ∷ 1 ∷ 0 ∷ 0x3A ∷ 0 ∷ longItem ++ (0 ∷ isilOclc ++ (0 ∷ 0x35 ∷ 0 ∷ []))))
 
 markedSheet : List ℕ
-markedSheet = 4 ∷ 0 ∷ 1 ∷ 18 ∷ 0 ∷ 17 ∷ 3 ∷ 35 ∷ 0 ∷ 8 ∷ 4 ∷ 43 ∷ 0 ∷ 4 ∷ 5 ∷ 47 ∷ 0 ∷ 1 ∷ longItem ++ (isilOclc ++ (1 ∷ 0 ∷ 1 ∷ 0 ∷ 0x10 ∷ []))
+markedSheet = 4 ∷ 0 ∷ 1 ∷ 18 ∷ 0 ∷ 17 ∷ 3 ∷ 35 ∷ 0 ∷ 8 ∷ 4 ∷ 43 ∷ 0 ∷ 4 ∷ 5 ∷ 47 ∷ 0 ∷ 1 ∷ longItem ++ (isilOclc ++ (1 ∷ 0 ∷ 1 ∷ 0 ∷ 0x35 ∷ []))
 
--- one part, usage 1 and nothing else in the basic block, with these blocks behind it
+-- part 1 of 2, usage 7 and nothing else in the basic block, with these blocks behind it
 withBlocks : List ℕ → List ℕ
-withBlocks s = 0x11 ∷ 1 ∷ 1 ∷ zeros 16 ++ (0xF9 ∷ 0xEB ∷ zeros 13 ++ s)
+withBlocks s = 0x71 ∷ 2 ∷ 1 ∷ zeros 16 ++ (0x7F ∷ 0xD3 ∷ zeros 13 ++ s)
 
 -- a block 1 that ends with the tag: media 1, alternative item A
 fullTag : List ℕ
 fullTag = withBlocks (6 ∷ 1 ∷ 0 ∷ 0x47 ∷ 1 ∷ 0x41 ∷ [])
 
 fullSheet : List ℕ
-fullSheet = 4 ∷ 0 ∷ 4 ∷ 18 ∷ 0 ∷ 4 ∷ 5 ∷ 22 ∷ 0 ∷ 1 ∷ 19 ∷ 23 ∷ 0 ∷ 1 ∷ 22 ∷ 24 ∷ 0 ∷ 1 ∷ 1 ∷ 0 ∷ 1 ∷ 0 ∷ 0x10 ∷ 1 ∷ 0x41 ∷ []
+fullSheet = 4 ∷ 0 ∷ 4 ∷ 18 ∷ 0 ∷ 4 ∷ 5 ∷ 22 ∷ 0 ∷ 1 ∷ 19 ∷ 23 ∷ 0 ∷ 1 ∷ 22 ∷ 24 ∷ 0 ∷ 1 ∷ 2 ∷ 0 ∷ 1 ∷ 0 ∷ 0x70 ∷ 1 ∷ 0x41 ∷ []
+
+-- a carried block of ID 101, which needs no checksum
+plainTag : List ℕ
+plainTag = withBlocks (3 ∷ 101 ∷ 0 ∷ 0 ∷ 0 ∷ 0 ∷ [])
+
+plainSheet : List ℕ
+plainSheet = 3 ∷ 0 ∷ 4 ∷ 14 ∷ 0 ∷ 4 ∷ 5 ∷ 18 ∷ 0 ∷ 1 ∷ 255 ∷ 19 ∷ 0 ∷ 3 ∷ 2 ∷ 0 ∷ 1 ∷ 0 ∷ 0x70 ∷ 3 ∷ 101 ∷ 0 ∷ []
 
 -- media 1 alone, in a block 1 with a 00 at its end; and two such blocks without it
 endingZero : List ℕ
 endingZero = withBlocks (6 ∷ 1 ∷ 0 ∷ 6 ∷ 1 ∷ 0 ∷ [])
 
 mediaSheet : List ℕ
-mediaSheet = 3 ∷ 0 ∷ 4 ∷ 14 ∷ 0 ∷ 4 ∷ 5 ∷ 18 ∷ 0 ∷ 1 ∷ 19 ∷ 19 ∷ 0 ∷ 1 ∷ 1 ∷ 0 ∷ 1 ∷ 0 ∷ 0x10 ∷ 1 ∷ []
+mediaSheet = 3 ∷ 0 ∷ 4 ∷ 14 ∷ 0 ∷ 4 ∷ 5 ∷ 18 ∷ 0 ∷ 1 ∷ 19 ∷ 19 ∷ 0 ∷ 1 ∷ 2 ∷ 0 ∷ 1 ∷ 0 ∷ 0x70 ∷ 1 ∷ []
 
 twice : List ℕ
 twice = withBlocks (5 ∷ 1 ∷ 0 ∷ 5 ∷ 1 ∷ 5 ∷ 1 ∷ 0 ∷ 5 ∷ 1 ∷ [])
@@ -186,6 +193,25 @@ looseTags =
 alphabets : Bool
 alphabets = eqb (count textByte 256) 95 && eqb (count capital 256) 26 && eqb (count unitByte 256) 65
 
+-- an ISIL of so many capitals and unit characters
+isilWith : ℕ → ℕ → List ℕ
+isilWith n m = replicate n 0x41 ++ (0x2D ∷ replicate m 0x41)
+
+-- the values at their bounds, and what is just beyond
+bounds : Bool
+bounds =
+    form 3 (isilWith 1 1) && form 3 (isilWith 4 11) && not (form 3 (isilWith 0 1)) && not (form 3 (isilWith 5 1)) && not (form 3 (isilWith 1 0))
+    && not (form 3 (isilWith 4 12)) && form 19 (1 ∷ []) && not (form 19 (0 ∷ [])) && form 1 (replicate 255 0x41) && not (form 1 (replicate 256 0x41))
+    && form 255 (3 ∷ 101 ∷ 0 ∷ []) && not (form 255 (5 ∷ 1 ∷ 0 ∷ 5 ∷ 1 ∷ [])) && not (form 255 (1 ∷ []))
+
+-- sheets that are refused 8: a byte behind the last entry, an offset of the wrong place, a number twice, a number behind 255
+wrongSheets : Bool
+wrongSheets =
+    let wrong : List ℕ → Bool = λ s. refuses (writing pageSize s (zeros 36) (zeros 9) .answer) 8 in
+    wrong (wholeSheet ++ (0 ∷ [])) && wrong (2 ∷ 0 ∷ 4 ∷ 10 ∷ 0 ∷ 4 ∷ 5 ∷ 15 ∷ 0 ∷ 1 ∷ 1 ∷ 0 ∷ 1 ∷ 0 ∷ 0x10 ∷ [])
+    && wrong (2 ∷ 0 ∷ 5 ∷ 10 ∷ 0 ∷ 1 ∷ 5 ∷ 11 ∷ 0 ∷ 1 ∷ 0x10 ∷ 0x10 ∷ [])
+    && wrong (2 ∷ 0 ∷ 255 ∷ 10 ∷ 0 ∷ 3 ∷ 5 ∷ 13 ∷ 0 ∷ 1 ∷ 3 ∷ 101 ∷ 0 ∷ 0x10 ∷ [])
+
 -- a lock map of another length, or with a byte above 1, is refused 1, although no page would change; 1 locks a page
 lockMaps : Bool
 lockMaps =
@@ -209,9 +235,9 @@ resultsInC =
 pub examples : List Bool
 examples =
     isSheetOf wholeSheet wholeTag ∷ isSheetOf sheet1 tag1 ∷ isSheetOf sheet2 tag2 ∷ isSheetOf markedSheet markedTag ∷ isSheetOf fullSheet fullTag ∷
-    changedBack ∷ wideNumber ∷ looseTags ∷
-    alphabets ∷ lockMaps ∷ resultsInC ∷ []
+    isSheetOf plainSheet plainTag ∷ changedBack ∷ wideNumber ∷ looseTags ∷
+    alphabets ∷ bounds ∷ wrongSheets ∷ lockMaps ∷ resultsInC ∷ []
 
 pub examples-hold : T (all (λ b. b) examples)
-unfolding examples isilUs wholeSheet wholeFront wholeTag isilDk fieldDk item1 tag1 sheet1 item2 acquisition tag2 sheet2 longItem isilOclc markedTag markedSheet withBlocks fullTag fullSheet endingZero mediaSheet twice changedBack editRefused wideNumber isLoose looseTags alphabets lockMaps resultsInC need inOrder afterwards andThen orElse passed all same le16 word padWith trim strip upTo past xorAll joined goodSize lockMap differs lockedDiffers count changed lockedChanged crcBit crcBits crcByte crcFrom crc covered textByte text capital unitByte isilOf isil alternative isOwner goodItem prefixIn ownerSaid goodOwner itemField packed basicOwner ownerField wellFormed carriable walk chain libraryBlock otherBlocks payload lastField libraryIn goodLibrary libraryBytes sealed blockOne numbers setInfo shape form value placeIn place known put clash heads bodies sheetOf offsetsFit risingFrom rising cut entriesIn rightSheet find carriedIn contentOf goodValues entriesAt carriedEntries entries library front basic laidOut image fits goodFields agree ownerOn contentIn tagSteps readSteps reading layingSteps writeSteps writing ownLayout editSteps editing
+unfolding examples isilUs wholeSheet wholeFront wholeTag isilDk fieldDk item1 tag1 sheet1 item2 acquisition tag2 sheet2 longItem isilOclc markedTag markedSheet withBlocks fullTag fullSheet plainTag plainSheet endingZero mediaSheet twice changedBack editRefused wideNumber isLoose looseTags alphabets isilWith bounds wrongSheets lockMaps resultsInC need inOrder afterwards andThen orElse passed all same le16 word padWith trim strip upTo past xorAll joined goodSize lockMap differs lockedDiffers count changed lockedChanged crcBit crcBits crcByte crcFrom crc covered textByte text capital unitByte isilOf isil alternative isOwner goodItem prefixIn ownerSaid goodOwner itemField packed basicOwner ownerField wellFormed carriable walk chain libraryBlock otherBlocks payload lastField libraryIn goodLibrary libraryBytes sealed blockOne numbers setInfo shape form value placeIn place known put clash heads bodies sheetOf offsetsFit risingFrom rising cut entriesIn rightSheet find carriedIn contentOf goodValues entriesAt carriedEntries entries library front basic laidOut image fits goodFields agree ownerOn contentIn tagSteps readSteps reading layingSteps writeSteps writing ownLayout editSteps editing
 examples-hold = tt
