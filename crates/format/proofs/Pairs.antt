@@ -147,9 +147,9 @@ plainTag = withBlocks (3 ∷ 101 ∷ 0 ∷ 0 ∷ 0 ∷ 0 ∷ [])
 plainSheet : List ℕ
 plainSheet = 3 ∷ 0 ∷ 4 ∷ 14 ∷ 0 ∷ 4 ∷ 5 ∷ 18 ∷ 0 ∷ 1 ∷ 255 ∷ 19 ∷ 0 ∷ 3 ∷ 2 ∷ 0 ∷ 1 ∷ 0 ∷ 0x70 ∷ 3 ∷ 101 ∷ 0 ∷ []
 
--- media 1 alone, in a block 1 with a 00 at its end; and two such blocks without it
-endingZero : List ℕ
-endingZero = withBlocks (6 ∷ 1 ∷ 0 ∷ 6 ∷ 1 ∷ 0 ∷ [])
+-- media 1 alone, in a block 1 with four 00 at its end; and two such blocks without them
+endingZeros : List ℕ
+endingZeros = withBlocks (9 ∷ 1 ∷ 0 ∷ 9 ∷ 1 ∷ 0 ∷ 0 ∷ 0 ∷ 0 ∷ 0 ∷ [])
 
 mediaSheet : List ℕ
 mediaSheet = 3 ∷ 0 ∷ 4 ∷ 14 ∷ 0 ∷ 4 ∷ 5 ∷ 18 ∷ 0 ∷ 1 ∷ 19 ∷ 19 ∷ 0 ∷ 1 ∷ 2 ∷ 0 ∷ 1 ∷ 0 ∷ 0x70 ∷ 1 ∷ []
@@ -183,10 +183,10 @@ isLoose s t =
     same (reading pageSize t (zeros (length s)) .sheet) s
     && editRefused 13 (editing pageSize t (zeros (length t / pageSize)) 3 isilUs (zeros 255) .answer)
 
--- a byte behind the end mark, a filler, a 00 at the end of block 1; and a second block 1 is damage
+-- a byte behind the end mark, a filler, 00 at the end of block 1; and a second block 1 is damage
 looseTags : Bool
 looseTags =
-    isLoose sheet2 (take 75 tag2 ++ (1 ∷ [])) && isLoose sheet2 (take 73 tag2 ++ (1 ∷ 0 ∷ 0 ∷ [])) && isLoose mediaSheet endingZero
+    isLoose sheet2 (take 75 tag2 ++ (1 ∷ [])) && isLoose sheet2 (take 73 tag2 ++ (1 ∷ 0 ∷ 0 ∷ [])) && isLoose mediaSheet endingZeros
     && refuses (reading pageSize twice [] .answer) 5
 
 -- 95 text bytes, 26 capitals, 65 unit characters
@@ -239,5 +239,5 @@ examples =
     alphabets ∷ bounds ∷ wrongSheets ∷ lockMaps ∷ resultsInC ∷ []
 
 pub examples-hold : T (all (λ b. b) examples)
-unfolding examples isilUs wholeSheet wholeFront wholeTag isilDk fieldDk item1 tag1 sheet1 item2 acquisition tag2 sheet2 longItem isilOclc markedTag markedSheet withBlocks fullTag fullSheet plainTag plainSheet endingZero mediaSheet twice changedBack editRefused wideNumber isLoose looseTags alphabets isilWith bounds wrongSheets lockMaps resultsInC need inOrder afterwards andThen orElse passed all same le16 word padWith trim strip upTo past xorAll joined goodSize lockMap differs lockedDiffers count changed lockedChanged crcBit crcBits crcByte crcFrom crc covered textByte text capital unitByte isilOf isil alternative isOwner goodItem prefixIn ownerSaid goodOwner itemField packed basicOwner ownerField wellFormed carriable walk chain libraryBlock otherBlocks payload lastField libraryIn goodLibrary libraryBytes sealed blockOne numbers setInfo shape form value placeIn place known put clash heads bodies sheetOf offsetsFit risingFrom rising cut entriesIn rightSheet find carriedIn contentOf goodValues entriesAt carriedEntries entries library front basic laidOut image fits goodFields agree ownerOn contentIn tagSteps readSteps reading layingSteps writeSteps writing ownLayout editSteps editing
+unfolding examples isilUs wholeSheet wholeFront wholeTag isilDk fieldDk item1 tag1 sheet1 item2 acquisition tag2 sheet2 longItem isilOclc markedTag markedSheet withBlocks fullTag fullSheet plainTag plainSheet endingZeros mediaSheet twice changedBack editRefused wideNumber isLoose looseTags alphabets isilWith bounds wrongSheets lockMaps resultsInC need inOrder afterwards andThen orElse passed all same le16 word padWith trim strip upTo past xorAll joined goodSize lockMap differs lockedDiffers count changed lockedChanged crcBit crcBits crcByte crcFrom crc covered textByte text capital unitByte isilOf isil alternative isOwner goodItem prefixIn ownerSaid goodOwner itemField packed basicOwner ownerField wellFormed carriable walk chain libraryBlock otherBlocks payload lastField libraryIn goodLibrary libraryBytes sealed blockOne numbers setInfo shape form value placeIn place known put clash heads bodies sheetOf offsetsFit risingFrom rising cut entriesIn rightSheet find carriedIn contentOf goodValues entriesAt carriedEntries entries library front basic laidOut image fits goodFields agree ownerOn contentIn tagSteps readSteps reading layingSteps writeSteps writing ownLayout editSteps editing
 examples-hold = tt

@@ -202,19 +202,20 @@ pub set-refused : (p : ℕ) (s t locks : List ℕ) → goodSize p (length t) && 
 unfolding writing writeSteps
 set-refused p s t locks z r w = next-ok _ _ _ _ z ∙ next-ok _ _ _ _ r ∙ next-no _ _ _ _ (bad-set (entriesIn s) (set-held (find 4 (entriesIn s)) w))
 
--- so is an edit that would set such an element 4, on a tag that the editor takes
+-- so is an edit, on a tag that the editor takes, of an unknown number, or with bytes that are no value of it:
 module _ (p : ℕ) (t locks buffer : List ℕ) (z : goodSize p (length t) && lockMap p locks (length t) ≡ true) (r : Readable t) (o : ownLayout t ≡ true) (room : 255 ≤ length buffer) where
-  bad-value : (n : ℕ) (s : List ℕ) → known n && value n s ≡ false → editing p t locks n s buffer .answer ≡ refused (plain 9)
+  pub edit-value-refused : (n : ℕ) (s : List ℕ) → known n && value n s ≡ false → editing p t locks n s buffer .answer ≡ refused (plain 9)
   unfolding editing editSteps
-  bad-value n s b =
+  edit-value-refused n s b =
       next-ok _ _ _ _ z ∙ readable-on t _ _ r ∙ next-ok _ _ _ _ o ∙ next-ok _ _ _ _ (le-leb 255 (length buffer) room) ∙ next-no _ _ _ _ b
 
+  -- one that would set such an element 4,
   pub edit-set-refused : (s : List ℕ) → (255 < partsOf s) ⊎ ((255 < ordinalOf s) ⊎ (partsOf s < ordinalOf s)) → editing p t locks 4 s buffer .answer ≡ refused (plain 9)
-  edit-set-refused s w = bad-value 4 s (and-no (known 4) (value 4 s) (set-no-value s w))
+  edit-set-refused s w = edit-value-refused 4 s (and-no (known 4) (value 4 s) (set-no-value s w))
 
-  -- and an edit of a number above 255, whatever the bytes: it is not cut to a byte, so 257 is not 1
+  -- and one of a number above 255, whatever the bytes: it is not cut to a byte, so 257 is not 1
   pub wide-number-refused : (n : ℕ) (s : List ℕ) → 255 < n → editing p t locks n s buffer .answer ≡ refused (plain 9)
-  wide-number-refused n s w = bad-value n s (and-left (known n) (value n s) (wide-unknown n w))
+  wide-number-refused n s w = edit-value-refused n s (and-left (known n) (value n s) (wide-unknown n w))
 
 -- the count of a write is that of the pages whose bytes differ before and after
 pub writing-counts : CountsWritten writing
