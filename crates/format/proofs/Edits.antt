@@ -1,24 +1,22 @@
 -- One edit on the writer's own layout: what it does, and that the old element undoes it.
-use mathlib.Core.Path.{_≡_, sym, ap, ap₂, _∙_}
+use mathlib.Core.Path.{_≡_, ap, ap₂, _∙_}
 use Prim.Native.Nat.{ℕ, _≤_}
 use mathlib.Core.Bool.{true, _&&_}
 use mathlib.Core.List.{List}
-use lib.ListN.{length, take, drop}
-use lib.Seq.{take-append-seam}
+use lib.ListN.{length}
 use borrow.Author.Tests.{leb-true, le-leb}
 use Rattle.format.specs.Answers.{got, inOrder}
-use Rattle.format.specs.Bytes.{filled}
-use Rattle.format.specs.Pages.{goodSize, lockMap, changed, lockedChanged}
+use Rattle.format.specs.Pages.{goodSize, lockMap, lockedChanged}
 use Rattle.format.specs.Elements.{Content, known, el, put, value}
 use Rattle.format.specs.Layout.{image, fits}
 use Rattle.format.specs.Reading.{contentIn}
-use Rattle.format.specs.Calls.{editSteps, Edited, editing}
+use Rattle.format.specs.Calls.{editSteps}
 use Rattle.format.specs.History.{Own}
 use Rattle.format.proofs.Tests.{and-l, and-r, and-i}
-use Rattle.format.proofs.Answers.{next-ok, next-inv, afterwards-got}
+use Rattle.format.proofs.Answers.{next-ok, next-inv}
 use Rattle.format.proofs.Readable.{readable-on, on-readable}
 use Rattle.format.proofs.Slots.{sound-parts, value-of, put-sound, put-back, put-same}
-use Rattle.format.proofs.Paging.{changed-sym, changed-self, locked-sym, locked-self}
+use Rattle.format.proofs.Paging.{locked-sym, locked-self}
 use Rattle.format.proofs.Laying.{Laid, laid-on, on-laid, laid-length, laid-own, own-read, own-layout}
 
 -- an edit of the elements c on tag t passes the steps behind 7

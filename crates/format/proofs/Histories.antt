@@ -5,7 +5,6 @@ use mathlib.Core.List.{List, [], _∷_}
 use lib.ListN.{length, take, drop}
 use lib.Seq.{take-append-seam}
 use Rattle.format.specs.Answers.{Answer, Refusal, got, refused}
-use Rattle.format.specs.Bytes.{filled}
 use Rattle.format.specs.Pages.{changed, Kept}
 use Rattle.format.specs.Elements.{Content, el, put}
 use Rattle.format.specs.Layout.{image}

@@ -5,7 +5,6 @@ use Prim.Native.Nat.{ℕ, _/_, _<_}
 use native.Mathlib.Omega.{arith}
 use mathlib.Core.Bool.{true, false, _&&_}
 use mathlib.Core.List.{List, [], _∷_}
-use lib.Dec.{lit<}
 use lib.ListN.{length, getD, replicate}
 use Rattle.format.specs.Answers.{Answer, Refusal, got, refused, Step, need, inOrder, Passed, afterwards, andThen, orElse, passed}
 use Rattle.format.specs.Bytes.{isEmpty, all, same, le16, word, padWith, trim, strip, upTo, past, xorAll, joined}
@@ -18,7 +17,7 @@ use Rattle.format.specs.Sheet.{heads, bodies, sheetOf, offsetsFit, risin
 use Rattle.format.specs.Layout.{library, front, basic, laidOut, image, fits}
 use Rattle.format.specs.Reading.{goodFields, agree, ownerOn, contentIn, tagSteps}
 use Rattle.format.specs.Calls.{readSteps, layingSteps, sheetContent, writeSteps, ownLayout, editSteps, Edited, Reader, Writer, Editor}
-use Rattle.format.specs.History.{Own, Edit, State, begin, noted, edited, run, Undoes, Undone}
+use Rattle.format.specs.History.{Own, Edit, noted, edited, run, Undone}
 use Rattle.format.specs.Demands.{ReadsExactly, WritesExactly, EditsExactly, ReadsBack, LaysDown, CountsWritten, EveryHistory, SameIsNothing}
 use Rattle.format.proofs.Tests.{never}
 use Rattle.format.proofs.Answers.{worked}
