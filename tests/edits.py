@@ -13,6 +13,7 @@ import sys
 
 ROOT = pathlib.Path(__file__).resolve().parent.parent
 ERROR = re.compile(r'/proofs/([\w/]+)\.antt:(\d+):\d+: error: `([^`]+)`: (.*)')
+UNPROVED = re.compile(r'^fn (\w+)::([\w:]+): no proof: .*`search` does not close `([^`]+)`')
 ROW = re.compile(r'^\|(.*)\|\s*$')
 EDIT = re.compile(r'^[a-z_]+/[a-z0-9_]+$')
 
@@ -21,13 +22,16 @@ def refused_by(crate, log):
     """(statement, where) for each that fails by itself, in the log's order."""
     found = []
     for line in log.read_text(encoding='utf8', errors='replace').splitlines():
-        match = ERROR.search(line)
-        if not match or 'was not admitted' in match.group(4):
+        match, unproved = ERROR.search(line), UNPROVED.match(line)
+        if unproved:
+            statement, where = f'contract of `{unproved.group(1)}::{unproved.group(2)}`', f'{unproved.group(3)}, found by the checker before'
+        elif match and 'was not admitted' not in match.group(4):
+            file, place, name = match.group(1), match.group(2), match.group(3)
+            proof = re.fullmatch(r'(\w+(?:/\w+)*)/Proof', file)
+            statement = f'contract of `{crate}::{proof.group(1).replace("/", "::")}`' if proof else f'`{name}`'
+            where = f'{name}, proofs/{file}.antt:{place}'
+        else:
             continue
-        file, place, name = match.group(1), match.group(2), match.group(3)
-        proof = re.fullmatch(r'(\w+(?:/\w+)*)/Proof', file)
-        statement = f'contract of `{crate}::{proof.group(1)}`' if proof else f'`{name}`'
-        where = f'{name}, proofs/{file}.antt:{place}'
         if statement not in [known for known, _ in found]:
             found.append((statement, where))
     return found
