@@ -32,12 +32,13 @@ refuses (refused (plain n)) k = eqb n k
 abbrev pub zeros : ℕ → List ℕ
 zeros n = replicate n 0
 
--- reading t into just enough room gives the sheet s; writing s onto an open tag of 00 gives t; into one byte less is refused 2
+-- reading t into just enough room gives the sheet s; writing s onto an open tag of 00, or of FF, gives t; into one byte less is refused 2
 abbrev isSheetOf : List ℕ → List ℕ → Bool
 isSheetOf s t =
     let r = reading pageSize t (zeros (length s)) in
     let w = writing pageSize s (zeros (length t)) (zeros (length t / pageSize)) in
-    gives (r .answer) (length s) && same (r .sheet) s && same (w .tag) t && gives (w .answer) (changed pageSize (zeros (length t)) t)
+    let over = writing pageSize s (replicate (length t) 0xFF) (zeros (length t / pageSize)) in
+    gives (r .answer) (length s) && same (r .sheet) s && same (w .tag) t && gives (w .answer) (changed pageSize (zeros (length t)) t) && same (over .tag) t
     && refuses (reading pageSize t (zeros (length s - 1)) .answer) 2
 
 -- ---- the pairs marked P
@@ -169,6 +170,10 @@ changedBack =
     samePages (got x) (refused y) = false
     samePages (refused x) y = false
 
+-- without its element 19 B.2 has no block 1: the block behind it moves, and 00 stand where it ended
+moved : Bool
+moved = same (editing pageSize tag2 (zeros 19) 19 [] (zeros 255) .tag) (take 34 tag2 ++ (acquisition ++ zeros 8))
+
 editRefused : ℕ → Answer Edited → Bool
 editRefused n (got x) = false
 editRefused n (refused (plain k)) = eqb k n
@@ -235,9 +240,9 @@ resultsInC =
 pub examples : List Bool
 examples =
     isSheetOf wholeSheet wholeTag ∷ isSheetOf sheet1 tag1 ∷ isSheetOf sheet2 tag2 ∷ isSheetOf markedSheet markedTag ∷ isSheetOf fullSheet fullTag ∷
-    isSheetOf plainSheet plainTag ∷ changedBack ∷ wideNumber ∷ looseTags ∷
+    isSheetOf plainSheet plainTag ∷ changedBack ∷ moved ∷ wideNumber ∷ looseTags ∷
     alphabets ∷ bounds ∷ wrongSheets ∷ lockMaps ∷ resultsInC ∷ []
 
 pub examples-hold : T (all (λ b. b) examples)
-unfolding examples isilUs wholeSheet wholeFront wholeTag isilDk fieldDk item1 tag1 sheet1 item2 acquisition tag2 sheet2 longItem isilOclc markedTag markedSheet withBlocks fullTag fullSheet plainTag plainSheet endingZeros mediaSheet twice changedBack editRefused wideNumber isLoose looseTags alphabets isilWith bounds wrongSheets lockMaps resultsInC need inOrder afterwards andThen orElse passed all same le16 word padWith trim strip upTo past xorAll joined goodSize lockMap differs lockedDiffers count changed lockedChanged crcBit crcBits crcByte crcFrom crc covered textByte text capital unitByte isilOf isil alternative isOwner goodItem prefixIn ownerSaid goodOwner itemField packed basicOwner ownerField wellFormed carriable walk chain libraryBlock otherBlocks payload lastField libraryIn goodLibrary libraryBytes sealed blockOne numbers setInfo shape form value placeIn place known put clash heads bodies sheetOf offsetsFit risingFrom rising cut entriesIn rightSheet find carriedIn contentOf goodValues entriesAt carriedEntries entries library front basic laidOut image fits goodFields agree ownerOn contentIn tagSteps readSteps reading layingSteps writeSteps writing ownLayout editSteps editing
+unfolding examples isilUs wholeSheet wholeFront wholeTag isilDk fieldDk item1 tag1 sheet1 item2 acquisition tag2 sheet2 longItem isilOclc markedTag markedSheet withBlocks fullTag fullSheet plainTag plainSheet endingZeros mediaSheet twice changedBack moved editRefused wideNumber isLoose looseTags alphabets isilWith bounds wrongSheets lockMaps resultsInC need inOrder afterwards andThen orElse passed all same le16 word padWith trim strip upTo past xorAll joined goodSize lockMap differs lockedDiffers count changed lockedChanged crcBit crcBits crcByte crcFrom crc covered textByte text capital unitByte isilOf isil alternative isOwner goodItem prefixIn ownerSaid goodOwner itemField packed basicOwner ownerField wellFormed carriable walk chain libraryBlock otherBlocks payload lastField libraryIn goodLibrary libraryBytes sealed blockOne numbers setInfo shape form value placeIn place known put clash heads bodies sheetOf offsetsFit risingFrom rising cut entriesIn rightSheet find carriedIn contentOf goodValues entriesAt carriedEntries entries library front basic laidOut image fits goodFields agree ownerOn contentIn tagSteps readSteps reading layingSteps writeSteps writing ownLayout editSteps editing
 examples-hold = tt
