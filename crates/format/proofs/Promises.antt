@@ -8,7 +8,7 @@ use mathlib.Core.Bool.{true, false, _&&_}
 use mathlib.Core.List.{List}
 use lib.ListN.{length}
 use borrow.Author.Tests.{le-leb}
-use Rattle.format.specs.Answers.{Answer, Refusal, plain, got, refused, Step, inOrder, Passed, FirstRefusal}
+use Rattle.format.specs.Answers.{Answer, Refusal, plain, got, refused, Step, inOrder}
 use Rattle.format.specs.Bytes.{bytes, filled, joined}
 use Rattle.format.specs.Pages.{pageSize, goodSize, lockMap, changed, openPages, Kept}
 use Rattle.format.specs.Elements.{Content, partsOf, ordinalOf, known, el, put, value, sound}
@@ -93,34 +93,27 @@ pub no-zero : (oneOf readNumbers 0 ≡ false) × (oneOf writeNumbers 0 ≡ false
 unfolding oneOf readNumbers writeNumbers editNumbers
 no-zero = (refl, refl, refl)
 
--- a call, as a list of steps, refuses with x exactly when a step refuses with x and no earlier one refuses
-pub refuses-exactly : {A : Type 0} (x : Refusal) (ss : List Step) (a : A) → (FirstRefusal x ss → inOrder ss a ≡ refused x) × (inOrder ss a ≡ refused x → FirstRefusal x ss)
-refuses-exactly x ss a = (refuses x ss a, refused-first x ss a)
-
--- and does its work exactly when every step is passed
-pub works-exactly : {A : Type 0} (ss : List Step) (a : A) → (Passed ss → inOrder ss a ≡ got a) × (inOrder ss a ≡ got a → Passed ss)
-works-exactly ss a = (works ss a, λ e. worked ss a a e .0)
-
--- so do the three calls
-of-steps : {A : Type 0} (ss : List Step) (a : A) → Exact ss (inOrder ss a)
-of-steps ss a = record {
+-- a list of steps refuses exactly where one of them refuses, as the first that does, and passes exactly where all do
+pub exactly : {A : Type 0} (ss : List Step) (a : A) → Exact ss (inOrder ss a)
+exactly ss a = record {
   refuses = λ x f. refuses x ss a f;
   refused-first = λ x e. refused-first x ss a e;
   works = λ f. (a, works ss a f);
   worked = λ b e. worked ss a b e .0;
 }
 
+-- so do the three calls
 pub reading-exactly : ReadsExactly reading
 unfolding reading
-reading-exactly p t buffer = of-steps (readSteps p (length buffer) t) _
+reading-exactly p t buffer = exactly (readSteps p (length buffer) t) _
 
 pub writing-exactly : WritesExactly writing
 unfolding writing
-writing-exactly p s t locks = of-steps (writeSteps p s t locks) _
+writing-exactly p s t locks = exactly (writeSteps p s t locks) _
 
 pub editing-exactly : EditsExactly editing
 unfolding editing
-editing-exactly p t locks n s buffer = of-steps (editSteps p (length buffer) t locks n s) _
+editing-exactly p t locks n s buffer = exactly (editSteps p (length buffer) t locks n s) _
 
 -- the steps refuse with the call's numbers, in the paper's order (so the number given is one of the list)
 pub reading-order : (p room : ℕ) (t : List ℕ) → Each readNumbers (readSteps p room t)
