@@ -202,6 +202,11 @@ alphabets = eqb (count textByte 256) 95 && eqb (count capital 256) 26 && eqb (co
 isilWith : ℕ → ℕ → List ℕ
 isilWith n m = replicate n 0x41 ++ (0x2D ∷ replicate m 0x41)
 
+-- one capital before the hyphen is filled up by a blank in the owner field: X-1
+oneCapital : Bool
+oneCapital =
+    same (ownerField 13 (0x58 ∷ 0x2D ∷ 0x31 ∷ [])) (0x58 ∷ 0x20 ∷ 0x31 ∷ zeros 10) && same (ownerSaid (0x58 ∷ 0x20 ∷ 0x31 ∷ [])) (0x58 ∷ 0x2D ∷ 0x31 ∷ [])
+
 -- the values at their bounds, and what is just beyond
 bounds : Bool
 bounds =
@@ -241,8 +246,8 @@ pub examples : List Bool
 examples =
     isSheetOf wholeSheet wholeTag ∷ isSheetOf sheet1 tag1 ∷ isSheetOf sheet2 tag2 ∷ isSheetOf markedSheet markedTag ∷ isSheetOf fullSheet fullTag ∷
     isSheetOf plainSheet plainTag ∷ changedBack ∷ moved ∷ wideNumber ∷ looseTags ∷
-    alphabets ∷ bounds ∷ wrongSheets ∷ lockMaps ∷ resultsInC ∷ []
+    alphabets ∷ oneCapital ∷ bounds ∷ wrongSheets ∷ lockMaps ∷ resultsInC ∷ []
 
 pub examples-hold : T (all (λ b. b) examples)
-unfolding examples isilUs wholeSheet wholeFront wholeTag isilDk fieldDk item1 tag1 sheet1 item2 acquisition tag2 sheet2 longItem isilOclc markedTag markedSheet withBlocks fullTag fullSheet plainTag plainSheet endingZeros mediaSheet twice changedBack moved editRefused wideNumber isLoose looseTags alphabets isilWith bounds wrongSheets lockMaps resultsInC need inOrder afterwards andThen orElse passed all same le16 word padWith trim strip upTo past xorAll joined goodSize lockMap differs lockedDiffers count changed lockedChanged crcBit crcBits crcByte crcFrom crc covered textByte text capital unitByte isilOf isil alternative isOwner goodItem prefixIn ownerSaid goodOwner itemField packed basicOwner ownerField wellFormed carriable walk chain libraryBlock otherBlocks payload lastField libraryIn goodLibrary libraryBytes sealed blockOne numbers setInfo shape form value placeIn place known put clash heads bodies sheetOf offsetsFit risingFrom rising cut entriesIn rightSheet find carriedIn contentOf goodValues entriesAt carriedEntries entries library front basic laidOut image fits goodFields agree ownerOn contentIn tagSteps readSteps reading layingSteps writeSteps writing ownLayout editSteps editing
+unfolding examples isilUs wholeSheet wholeFront wholeTag isilDk fieldDk item1 tag1 sheet1 item2 acquisition tag2 sheet2 longItem isilOclc markedTag markedSheet withBlocks fullTag fullSheet plainTag plainSheet endingZeros mediaSheet twice changedBack moved editRefused wideNumber isLoose looseTags alphabets isilWith oneCapital bounds wrongSheets lockMaps resultsInC need inOrder afterwards andThen orElse passed all same le16 word padWith trim strip upTo past xorAll joined goodSize lockMap differs lockedDiffers count changed lockedChanged crcBit crcBits crcByte crcFrom crc covered textByte text capital unitByte isilOf isil alternative isOwner goodItem prefixIn ownerSaid goodOwner itemField packed basicOwner ownerField wellFormed carriable walk chain libraryBlock otherBlocks payload lastField libraryIn goodLibrary libraryBytes sealed blockOne numbers setInfo shape form value placeIn place known put clash heads bodies sheetOf offsetsFit risingFrom rising cut entriesIn rightSheet find carriedIn contentOf goodValues entriesAt carriedEntries entries library front basic laidOut image fits goodFields agree ownerOn contentIn tagSteps readSteps reading layingSteps writeSteps writing ownLayout editSteps editing
 examples-hold = tt
