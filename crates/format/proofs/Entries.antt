@@ -239,7 +239,7 @@ numbers-at : (f : ℕ → Bool) → all f numbers ≡ true → f 4 ≡ true
 unfolding all numbers
 numbers-at f e = and-l (f 4) _ (and-r (f 3) _ (and-r (f 1) _ e))
 
-pub values-sound : (es : List Entry) → goodValues es ≡ true → clash (contentOf es) ≡ false → sound (contentOf es) ≡ true
+pub values-sound : (es : List Entry) → goodValues es ≡ true → clash (contentOf es .slots) ≡ false → sound (contentOf es) ≡ true
 unfolding contentOf
 values-sound es g k =
     let v = values-parts es g in

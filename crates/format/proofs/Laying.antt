@@ -20,7 +20,7 @@ use Rattle.format.proofs.Paging.{locked-kept, changed-open}
 
 -- elements c may be laid down on tag t
 pub record Laid (p : ℕ) (locks t : List ℕ) (c : Content) : Type 0 where
-  pub clear : clash c ≡ false
+  pub clear : clash (c .slots) ≡ false
   pub fit : fits (length t) c ≡ true
   pub unlocked : lockedChanged p locks t (image (length t) c) ≡ 0
 
@@ -34,7 +34,7 @@ on-laid p locks t c a b e =
     let x = next-inv _ _ _ a b e in
     let y = next-inv _ _ _ a b (x .1) in
     let z = next-inv _ _ _ a b (y .1) in
-    (record { clear = not-t (clash c) (x .0); fit = y .0; unlocked = eqb-true _ 0 (z .0) }, none-inv a b (z .1))
+    (record { clear = not-t (clash (c .slots)) (x .0); fit = y .0; unlocked = eqb-true _ 0 (z .0) }, none-inv a b (z .1))
 
 module _ (p : ℕ) (locks t : List ℕ) (c : Content) (l : Laid p locks t c) where
   pub laid-length : length (image (length t) c) ≡ length t

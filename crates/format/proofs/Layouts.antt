@@ -15,8 +15,8 @@ use Rattle.format.specs.Pages.{goodSize}
 use Rattle.format.specs.Crc.{crc, covered}
 use Rattle.format.specs.Fields.{text, marker, hyphen, long, alternate, ownerSaid, goodItem, goodOwner, itemField, packed, basicOwner, ownerField}
 use Rattle.format.specs.Chain.{chain, libraryBlock, otherBlocks, libraryIn, goodLibrary, blockOne}
-use Rattle.format.specs.Elements.{Content, el, shape, sound}
-use Rattle.format.specs.Layout.{ownerWidth, ownerOf, usageOf, library, firstByte, front, basic, laidOut, image, fits}
+use Rattle.format.specs.Elements.{Content, numbers, placeIn, place, known, el, shape, sound}
+use Rattle.format.specs.Layout.{ownerWidth, ownerOf, usageOf, library, firstByte, front, basic, laidOut, layout, hasLayout, image, fits}
 use Rattle.format.specs.Reading.{walked, blocksIn, libraryOn, goodFields, agree, ownerOn, contentIn, Readable}
 use Rattle.format.proofs.Tests.{and-l, and-r, and-i, or-inv, same-refl}
 use Rattle.format.proofs.Answers.{or-else-got}
@@ -84,63 +84,63 @@ size-most p n e = elim (or-inv (eqb n 32) (eqb (n % p) 0 && between 36 2048 n) e
   | inr h ↦ leb-true n 2048 (and-r (leb 36 n) (leb n 2048) (and-r (eqb (n % p) 0) (between 36 2048 n) h))
 ]
 
-pub fits-parts : (n : ℕ) (c : Content) → fits n c ≡ true → (length (blockOne (library n c)) ≤ 255) × (length (laidOut n c) ≤ n)
-unfolding fits
+pub fits-parts : (n : ℕ) (c : Content) → fits n c ≡ true → (length (blockOne (library n (c .slots))) ≤ 255) × (length (laidOut n (c .slots) (joined (c .carried))) ≤ n)
+unfolding hasLayout
 fits-parts n c e =
-    let x : Bool = leb (length (blockOne (library n c))) 255 in
-    let y : Bool = leb (length (laidOut n c)) n in
+    let x : Bool = leb (length (blockOne (library n (c .slots)))) 255 in
+    let y : Bool = leb (length (laidOut n (c .slots) (joined (c .carried)))) n in
     (leb-true _ 255 (and-l x y e), leb-true _ n (and-r x y e))
 
 pub image-length : (n : ℕ) (c : Content) → fits n c ≡ true → length (image n c) ≡ n
-unfolding image
-image-length n c e = length-pad 0 n (laidOut n c) (fits-parts n c e .1)
+unfolding layout
+image-length n c e = length-pad 0 n (laidOut n (c .slots) (joined (c .carried))) (fits-parts n c e .1)
 
 -- ---- the writer's layout in parts
 
 module _ (n : ℕ) (c : Content) where
   abbrev ownPart : List ℕ
-  ownPart = ownerField (ownerWidth n) (ownerOf c)
+  ownPart = ownerField (ownerWidth n) (ownerOf (c .slots))
 
   abbrev checkPart : List ℕ
-  checkPart = le16 (crc (front c ++ pad 13 ownPart))
+  checkPart = le16 (crc (front (c .slots) ++ pad 13 ownPart))
 
   abbrev tailPart : List ℕ
-  tailPart = blockOne (library n c) ++ (joined (c .carried) ++ replicate (n - length (laidOut n c)) 0)
+  tailPart = blockOne (library n (c .slots)) ++ (joined (c .carried) ++ replicate (n - length (laidOut n (c .slots) (joined (c .carried)))) 0)
 
-  pub image-shape : image n c ≡ shaped (firstByte (usageOf c)) (getD (el c 4) 0 0) (getD (el c 4) 2 0) (itemField (el c 1)) checkPart ownPart tailPart (item-length (el c 1)) (le16-length _)
-  unfolding image padWith laidOut basic front
+  pub image-shape : image n c ≡ shaped (firstByte (usageOf (c .slots))) (getD (el c 4) 0 0) (getD (el c 4) 2 0) (itemField (el c 1)) checkPart ownPart tailPart (item-length (el c 1)) (le16-length _)
+  unfolding layout padWith laidOut basic front
   image-shape =
-      let one : List ℕ = blockOne (library n c) in
-      let zeros : List ℕ = replicate (n - length (laidOut n c)) 0 in
-      append-assoc (basic n c) (one ++ joined (c .carried)) zeros
-      ∙ ap (λ (r : List ℕ). basic n c ++ r) (append-assoc one (joined (c .carried)) zeros)
-      ∙ append-assoc (front c) (checkPart ++ ownPart) tailPart
-      ∙ ap (λ (r : List ℕ). front c ++ r) (append-assoc checkPart ownPart tailPart)
+      let one : List ℕ = blockOne (library n (c .slots)) in
+      let zeros : List ℕ = replicate (n - length (laidOut n (c .slots) (joined (c .carried)))) 0 in
+      append-assoc (basic n (c .slots)) (one ++ joined (c .carried)) zeros
+      ∙ ap (λ (r : List ℕ). basic n (c .slots) ++ r) (append-assoc one (joined (c .carried)) zeros)
+      ∙ append-assoc (front (c .slots)) (checkPart ++ ownPart) tailPart
+      ∙ ap (λ (r : List ℕ). front (c .slots) ++ r) (append-assoc checkPart ownPart tailPart)
 
-  pub basic-length : 3 ≤ ownerWidth n → length (basic n c) ≡ 21 + ownerWidth n
+  pub basic-length : 3 ≤ ownerWidth n → length (basic n (c .slots)) ≡ 21 + ownerWidth n
   unfolding basic front
   basic-length h =
       omega (
         arith,
-        length-append (front c) (checkPart ++ ownPart),
+        length-append (front (c .slots)) (checkPart ++ ownPart),
         length-append checkPart ownPart,
-        le16-length (crc (front c ++ pad 13 ownPart)),
-        owner-length (ownerWidth n) (ownerOf c) h,
+        le16-length (crc (front (c .slots) ++ pad 13 ownPart)),
+        owner-length (ownerWidth n) (ownerOf (c .slots)) h,
         item-length (el c 1),
       )
 
   -- the owner field fills what is left of the basic block, on 32 bytes too
-  own-cut : (n ≡ 32) ⊎ (36 ≤ n) → length (laidOut n c) ≤ n → (take 13 (ownPart ++ tailPart) ≡ ownPart) × (drop 13 (ownPart ++ tailPart) ≡ tailPart)
+  own-cut : (n ≡ 32) ⊎ (36 ≤ n) → length (laidOut n (c .slots) (joined (c .carried))) ≤ n → (take 13 (ownPart ++ tailPart) ≡ ownPart) × (drop 13 (ownPart ++ tailPart) ≡ tailPart)
   unfolding laidOut
   own-cut (inl e) f =
       let w : ownerWidth n ≡ 11 = rw e in
-      let lo = owner-length (ownerWidth n) (ownerOf c) (omega arith) in
-      let m : ℕ = n - length (laidOut n c) in
-      let one : List ℕ = blockOne (library n c) in
+      let lo = owner-length (ownerWidth n) (ownerOf (c .slots)) (omega arith) in
+      let m : ℕ = n - length (laidOut n (c .slots) (joined (c .carried))) in
+      let one : List ℕ = blockOne (library n (c .slots)) in
       let z : tailPart ≡ [] = nil-of tailPart (omega (
         arith,
         basic-length (omega arith),
-        length-append (basic n c) (one ++ joined (c .carried)),
+        length-append (basic n (c .slots)) (one ++ joined (c .carried)),
         length-append one (joined (c .carried)),
         length-append one (joined (c .carried) ++ replicate m 0),
         length-append (joined (c .carried)) (replicate m 0),
@@ -149,39 +149,39 @@ module _ (n : ℕ) (c : Content) where
       rw (z, append-nil ownPart) (take-all 13 ownPart (omega arith), drop-of-length-le ownPart {i = 13} (omega arith))
   own-cut (inr e) f =
       let w : ownerWidth n ≡ 13 = omega arith in
-      let lo = owner-length (ownerWidth n) (ownerOf c) (omega arith) in
+      let lo = owner-length (ownerWidth n) (ownerOf (c .slots)) (omega arith) in
       (take-at ownPart tailPart 13 (lo ∙ w), drop-at ownPart tailPart 13 (lo ∙ w))
 
 -- ---- the elements come back from their fields
 
 module _ (n : ℕ) (c : Content) (k : Facts c) where
-  owners : OwnerPlaced (ownerWidth n) (ownerOf c) (library n c .owner)
-  unfolding library
-  owners = owner-placed (ownerWidth n) (ownerOf c) (owner-either (el c 3) (el c 23) (value-isil (el c 3) (k .values .v3)) (value-alternative (el c 23) (k .values .v23)) (k .owners))
+  owners : OwnerPlaced (ownerWidth n) (ownerOf (c .slots)) (library n (c .slots) .owner)
+  unfolding library known place placeIn numbers
+  owners = owner-placed (ownerWidth n) (ownerOf (c .slots)) (owner-either (el c 3) (el c 23) (value-isil (el c 3) (k .values 3 refl)) (value-alternative (el c 23) (k .values 23 refl)) (k .owners))
 
   text1 : text (el c 1) ≡ true
-  unfolding shape
-  text1 = value-text 1 (el c 1) refl (k .values .v1)
+  unfolding shape known place placeIn numbers
+  text1 = value-text 1 (el c 1) refl (k .values 1 refl)
 
   text22 : text (el c 22) ≡ true
-  unfolding shape
-  text22 = value-text 22 (el c 22) refl (k .values .v22)
+  unfolding shape known place placeIn numbers
+  text22 = value-text 22 (el c 22) refl (k .values 22 refl)
 
   -- a tag whose parts are these holds these elements
   pub record Parts (t : List ℕ) : Type 0 where
-    pub main : getD t 0 0 ≡ firstByte (usageOf c)
+    pub main : getD t 0 0 ≡ firstByte (usageOf (c .slots))
     pub parts : getD t 1 0 ≡ getD (el c 4) 0 0
     pub ordinal : getD t 2 0 ≡ getD (el c 4) 2 0
     pub item : strip (part 3 16 t) ≡ (if long (el c 1) then marker else el c 1)
-    pub owner : ownerSaid (strip (part 21 13 t)) ≡ spoken (ownerWidth n) (ownerOf c)
-    pub one : libraryOn t ≡ library n c
+    pub owner : ownerSaid (strip (part 21 13 t)) ≡ spoken (ownerWidth n) (ownerOf (c .slots))
+    pub one : libraryOn t ≡ library n (c .slots)
     pub others : otherBlocks (blocksIn t) ≡ c .carried
 
   content-back : (t : List ℕ) → Parts t → contentIn t ≡ c
-  unfolding contentIn ownerOn library
+  unfolding contentIn ownerOn library known place placeIn numbers
   content-back t h =
       let ic = item-content (el c 1) (el c 22) text1 (k .items) in
-      let oc = owner-content (el c 3) (el c 23) (value-isil (el c 3) (k .values .v3)) (value-alternative (el c 23) (k .values .v23)) (k .owners) in
+      let oc = owner-content (el c 3) (el c 23) (value-isil (el c 3) (k .values 3 refl)) (value-alternative (el c 23) (k .values 23 refl)) (k .owners) in
       rw (
         h .one,
         h .item,
@@ -195,56 +195,56 @@ module _ (n : ℕ) (c : Content) (k : Facts c) where
         ic .1,
         oc .0,
         oc .1,
-        value-set (el c 4) (k .values .v4) .whole,
-        usage-content (usageOf c),
-        ← (value-usage (el c 5) (k .values .v5)),
-        value-media (el c 19) (k .values .v19),
+        value-set (el c 4) (k .values 4 refl) .whole,
+        usage-content (usageOf (c .slots)),
+        ← (value-usage (el c 5) (k .values 5 refl)),
+        value-media (el c 19) (k .values 19 refl),
       ) (k .eta)
 
   agree-back : (t : List ℕ) → Parts t → agree t ≡ true
   unfolding agree library
   agree-back t h =
       let ia = item-agrees (el c 1) (el c 22) text1 text22 in
-      rw (h .one, h .item, h .owner, h .main) (and-i (and-i (ia .1) (owners .agrees)) (usage-agrees (usageOf c)))
+      rw (h .one, h .item, h .owner, h .main) (and-i (and-i (ia .1) (owners .agrees)) (usage-agrees (usageOf (c .slots))))
 
 -- What the writer lays down is readable, and holds the elements that were laid down.
 pub read-back : (p n : ℕ) (c : Content) → goodSize p n ≡ true → sound c ≡ true → fits n c ≡ true → Readable (image n c) × (contentIn (image n c) ≡ c)
-unfolding goodFields library front
+unfolding goodFields library front known place placeIn numbers
 read-back p n c good s f =
     let k = sound-facts c s in
     let t : List ℕ = image n c in
     let sh = image-shape n c in
     let it = itemField (el c 1) in
     let li = item-length (el c 1) in
-    let ll = le16-length (crc (front c ++ pad 13 (ownPart n c))) in
+    let ll = le16-length (crc (front (c .slots) ++ pad 13 (ownPart n c))) in
     let cut = own-cut n c (size-cases p n good) (fits-parts n c f .1) in
-    let a : ℕ = firstByte (usageOf c) in
+    let a : ℕ = firstByte (usageOf (c .slots)) in
     let pa : ℕ = getD (el c 4) 0 0 in
     let od : ℕ = getD (el c 4) 2 0 in
     let le : List ℕ = checkPart n c in
     let ow : List ℕ = ownPart n c in
     let ta : List ℕ = tailPart n c in
-    let oe = owner-either (el c 3) (el c 23) (value-isil (el c 3) (k .values .v3)) (value-alternative (el c 23) (k .values .v23)) (k .owners) in
+    let oe = owner-either (el c 3) (el c 23) (value-isil (el c 3) (k .values 3 refl)) (value-alternative (el c 23) (k .values 23 refl)) (k .owners) in
     let o = owners n c k in
     let ia = item-agrees (el c 1) (el c 22) (text1 n c k) (text22 n c k) in
-    let ch = chain-laid (library n c) (c .carried) (n - length (laidOut n c)) (k .rest) in
+    let ch = chain-laid (library n (c .slots)) (c .carried) (n - length (laidOut n (c .slots) (joined (c .carried)))) (k .rest) in
     let w : walked t ≡ got (ch .bs) = ap (λ (x : List ℕ). chain (drop 34 x)) sh ∙ ap chain (shape-tail a pa od it le ow ta li ll ∙ cut .1) ∙ ch .walks in
     let bs : blocksIn t ≡ ch .bs = or-else-got (walked t) (ch .bs) [] w in
     let ib = item-back (el c 1) (text1 n c k) in
-    let ob = owner-back (ownerWidth n) (ownerOf c) oe in
+    let ob = owner-back (ownerWidth n) (ownerOf (c .slots)) oe in
     let item : part 3 16 t ≡ it = ap (part 3 16) sh ∙ shape-item a pa od it le ow ta li ll in
     let own : part 21 13 t ≡ ow = ap (part 21 13) sh ∙ ap (take 13) (shape-own a pa od it le ow ta li ll) ∙ cut .0 in
-    let one : libraryBlock (blocksIn t) ≡ blockOne (library n c) = ap libraryBlock bs ∙ ch .library in
+    let one : libraryBlock (blocksIn t) ≡ blockOne (library n (c .slots)) = ap libraryBlock bs ∙ ch .library in
     let ps : Parts n c k t = record {
       main = ap (λ (x : List ℕ). getD x 0 0) sh;
       parts = ap (λ (x : List ℕ). getD x 1 0) sh;
       ordinal = ap (λ (x : List ℕ). getD x 2 0) sh;
       item = ap strip item ∙ ib .1;
       owner = ap (λ (x : List ℕ). ownerSaid (strip x)) own ∙ ob .1;
-      one = ap libraryIn one ∙ library-back (library n c) (text-solid _ (ia .0)) (o .solid-all);
+      one = ap libraryIn one ∙ library-back (library n (c .slots)) (text-solid _ (ia .0)) (o .solid-all);
       others = ap otherBlocks bs ∙ ch .others;
     } in
-    let si = value-set (el c 4) (k .values .v4) in (
+    let si = value-set (el c 4) (k .values 4 refl) in (
       record {
         parameter = eq-eqb (getD t 0 0 % 16) 1 (ap (λ (x : ℕ). x % 16) (ps .main) ∙ omega arith);
         check = ap₂ (λ (x y : List ℕ). same x (le16 (crc y))) (ap (part 19 2) sh ∙ shape-le a pa od it le ow ta li ll) (ap covered sh ∙ shape-covered a pa od it le ow ta li ll (cut .0)) ∙ same-refl le;
@@ -253,7 +253,7 @@ read-back p n c good s f =
             (ap₂ leb (ps .ordinal) (ps .parts) ∙ le-leb od pa (si .ordinal))
             (ap (λ (x : List ℕ). goodItem (strip x)) item ∙ ib .0))
             (ap (λ (x : List ℕ). goodOwner (strip x)) own ∙ ob .0))
-            (ap goodLibrary one ∙ library-good (library n c) (text-solid _ (ia .0)) (o .solid-all) (ia .0) (o .good));
+            (ap goodLibrary one ∙ library-good (library n (c .slots)) (text-solid _ (ia .0)) (o .solid-all) (ia .0) (o .good));
         agreed = agree-back n c k t ps;
       },
       content-back n c k t ps,

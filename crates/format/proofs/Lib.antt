@@ -13,7 +13,6 @@ pub mod Entries
 pub mod Readable
 pub mod Values
 pub mod Layouts
-pub mod Joined
 pub mod Sound
 pub mod Shorter
 pub mod Offsets

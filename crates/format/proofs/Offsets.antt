@@ -102,7 +102,7 @@ own-fitting p c t g o =
     content-fitting c (o .sane) (omega (
       arith,
       fits-parts n c (o .fit) .1,
-      length-append (basic n c) (blockOne (library n c) ++ joined (c .carried)),
-      length-append (blockOne (library n c)) (joined (c .carried)),
+      length-append (basic n (c .slots)) (blockOne (library n (c .slots)) ++ joined (c .carried)),
+      length-append (blockOne (library n (c .slots))) (joined (c .carried)),
       size-most p n g,
     ))

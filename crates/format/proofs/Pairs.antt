@@ -14,7 +14,7 @@ use Rattle.format.specs.Fields.{textByte, text, capital, unitByte, isilO
 use Rattle.format.specs.Chain.{wellFormed, carriable, walk, chain, libraryBlock, otherBlocks, payload, lastField, libraryIn, goodLibrary, libraryBytes, sealed, blockOne}
 use Rattle.format.specs.Elements.{numbers, setInfo, shape, form, value, placeIn, place, known, put, clash}
 use Rattle.format.specs.Sheet.{heads, bodies, sheetOf, offsetsFit, risingFrom, rising, cut, entriesIn, rightSheet, find, carriedIn, contentOf, goodValues, entriesAt, carriedEntries, entries}
-use Rattle.format.specs.Layout.{library, front, basic, laidOut, image, fits}
+use Rattle.format.specs.Layout.{library, front, basic, laidOut, layout, hasLayout}
 use Rattle.format.specs.Reading.{goodFields, agree, ownerOn, contentIn, tagSteps}
 use Rattle.format.specs.Calls.{readSteps, reading, layingSteps, writeSteps, writing, ownLayout, editSteps, Edited, editing}
 use Rattle.format.specs.Numbers.{numberOf, resultOf}
@@ -68,7 +68,7 @@ pairs =
     []
 
 pub pairs-hold : T (all (λ b. b) pairs)
-unfolding pairs digits setSheet isilUs need inOrder afterwards andThen orElse passed all same le16 word padWith trim strip upTo past xorAll joined goodSize lockMap differs lockedDiffers count changed lockedChanged crcBit crcBits crcByte crcFrom crc covered textByte text capital unitByte isilOf isil alternative isOwner goodItem prefixIn ownerSaid goodOwner itemField packed basicOwner ownerField wellFormed carriable walk chain libraryBlock otherBlocks payload lastField libraryIn goodLibrary libraryBytes sealed blockOne numbers setInfo shape form value placeIn place known put clash heads bodies sheetOf offsetsFit risingFrom rising cut entriesIn rightSheet find carriedIn contentOf goodValues entriesAt carriedEntries entries library front basic laidOut image fits goodFields agree ownerOn contentIn tagSteps readSteps reading layingSteps writeSteps writing
+unfolding pairs digits setSheet isilUs need inOrder afterwards andThen orElse passed all same le16 word padWith trim strip upTo past xorAll joined goodSize lockMap differs lockedDiffers count changed lockedChanged crcBit crcBits crcByte crcFrom crc covered textByte text capital unitByte isilOf isil alternative isOwner goodItem prefixIn ownerSaid goodOwner itemField packed basicOwner ownerField wellFormed carriable walk chain libraryBlock otherBlocks payload lastField libraryIn goodLibrary libraryBytes sealed blockOne numbers setInfo shape form value placeIn place known put clash heads bodies sheetOf offsetsFit risingFrom rising cut entriesIn rightSheet find carriedIn contentOf goodValues entriesAt carriedEntries entries library front basic laidOut layout hasLayout goodFields agree ownerOn contentIn tagSteps readSteps reading layingSteps writeSteps writing
 pairs-hold = tt
 
 -- ---- the whole case, and the standard's examples
@@ -249,5 +249,5 @@ examples =
     alphabets ∷ oneCapital ∷ bounds ∷ wrongSheets ∷ lockMaps ∷ resultsInC ∷ []
 
 pub examples-hold : T (all (λ b. b) examples)
-unfolding examples isilUs wholeSheet wholeFront wholeTag isilDk fieldDk item1 tag1 sheet1 item2 acquisition tag2 sheet2 longItem isilOclc markedTag markedSheet withBlocks fullTag fullSheet plainTag plainSheet endingZeros mediaSheet twice changedBack moved editRefused wideNumber isLoose looseTags alphabets isilWith oneCapital bounds wrongSheets lockMaps resultsInC need inOrder afterwards andThen orElse passed all same le16 word padWith trim strip upTo past xorAll joined goodSize lockMap differs lockedDiffers count changed lockedChanged crcBit crcBits crcByte crcFrom crc covered textByte text capital unitByte isilOf isil alternative isOwner goodItem prefixIn ownerSaid goodOwner itemField packed basicOwner ownerField wellFormed carriable walk chain libraryBlock otherBlocks payload lastField libraryIn goodLibrary libraryBytes sealed blockOne numbers setInfo shape form value placeIn place known put clash heads bodies sheetOf offsetsFit risingFrom rising cut entriesIn rightSheet find carriedIn contentOf goodValues entriesAt carriedEntries entries library front basic laidOut image fits goodFields agree ownerOn contentIn tagSteps readSteps reading layingSteps writeSteps writing ownLayout editSteps editing
+unfolding examples isilUs wholeSheet wholeFront wholeTag isilDk fieldDk item1 tag1 sheet1 item2 acquisition tag2 sheet2 longItem isilOclc markedTag markedSheet withBlocks fullTag fullSheet plainTag plainSheet endingZeros mediaSheet twice changedBack moved editRefused wideNumber isLoose looseTags alphabets isilWith oneCapital bounds wrongSheets lockMaps resultsInC need inOrder afterwards andThen orElse passed all same le16 word padWith trim strip upTo past xorAll joined goodSize lockMap differs lockedDiffers count changed lockedChanged crcBit crcBits crcByte crcFrom crc covered textByte text capital unitByte isilOf isil alternative isOwner goodItem prefixIn ownerSaid goodOwner itemField packed basicOwner ownerField wellFormed carriable walk chain libraryBlock otherBlocks payload lastField libraryIn goodLibrary libraryBytes sealed blockOne numbers setInfo shape form value placeIn place known put clash heads bodies sheetOf offsetsFit risingFrom rising cut entriesIn rightSheet find carriedIn contentOf goodValues entriesAt carriedEntries entries library front basic laidOut layout hasLayout goodFields agree ownerOn contentIn tagSteps readSteps reading layingSteps writeSteps writing ownLayout editSteps editing
 examples-hold = tt

@@ -16,13 +16,10 @@ use Rattle.format.specs.Sheet.{sheetOf, fitting, entriesIn, rightSheet, 
 use Rattle.format.specs.Layout.{ownerWidth, laidOut, image, fits}
 use Rattle.format.specs.Reading.{blocksIn, contentIn, Readable}
 use Rattle.format.specs.Calls.{sheetIn, readSteps, reading, sheetContent, writeSteps, writing, ownLayout, editSteps, Edited, editing}
-use Rattle.format.specs.Numbers.{readGiven, writeGiven, editGiven, readNumbers, writeNumbers, editNumbers, Each, oneOf, numberOf, resultOf, Reads, Writes, Edits, ReadsC, WritesC, EditsC}
+use Rattle.format.specs.Numbers.{answerGiven, answerGiven, editGiven, readNumbers, writeNumbers, editNumbers, Each, oneOf, numberOf, resultOf, Reads, Writes, Edits, ReadsC, WritesC, EditsC}
 use Rattle.format.specs.History.{Own, State, begin, run}
 use Rattle.format.specs.Demands.{Exact, ReadsExactly, WritesExactly, EditsExactly, ReadsUnchanged, WritesUnchanged, EditsUnchanged, ReadsBack, LaysDown, CountsWritten, CountsEdited, PutsElement, EveryHistory, SameIsNothing}
-use Rattle.format.specs.declared.ReadAnswer.{ReadAnswer}
-use Rattle.format.specs.declared.ReadAnswer.the-variants as read
-use Rattle.format.specs.declared.WriteAnswer.{WriteAnswer}
-use Rattle.format.specs.declared.WriteAnswer.the-variants as write
+use Rattle.format.specs.declared.NumberAnswer.{NumberAnswer}
 use Rattle.format.specs.declared.EditAnswer.{EditAnswer}
 use Rattle.format.specs.declared.EditAnswer.the-variants as edit
 use Rattle.format.proofs.Tests.{never, and-r, and-no, and-left}
@@ -41,27 +38,16 @@ use Rattle.format.proofs.Laying.{laid-open, layout-own}
 use Rattle.format.proofs.Writes.{write-passed, written-own, written-length, written-sheet, written-passes, own-written}
 use Rattle.format.proofs.Edits.{edit-passed, own-elements, edit-passes, passed-edit, same-length, edited-own, same-accepted}
 use Rattle.format.proofs.Histories.{Good, history, begun}
+use Rattle.format.proofs.One.{answer-same}
 
 -- ==== Demand 1: one answer and one content for each buffer, on every input; a refusal changes nothing and gives only its number
 
 -- two outcomes that fit a call's contract are equal, answer and buffers
-pub read-same : (r r′ : ReadAnswer) → readGiven r ≡ readGiven r′ → r ≡ r′
-read-same (read.Done n) (read.Done m) e = let k : n ≡ m = cc in ap read.Done k
-read-same (read.Done n) (read.Refused m) e = never (cc)
-read-same (read.Refused n) (read.Done m) e = never (cc)
-read-same (read.Refused n) (read.Refused m) e = let k : n ≡ m = cc in ap read.Refused k
+pub reads-one : (t buffer : List ℕ) (r r′ : NumberAnswer) (s s′ : List ℕ) → Reads t buffer r s → Reads t buffer r′ s′ → (r ≡ r′) × (s ≡ s′)
+reads-one t buffer r r′ s s′ a b = (answer-same r r′ (a .answered ∙ sym (b .answered)), a .left ∙ sym (b .left))
 
-pub reads-one : (t buffer : List ℕ) (r r′ : ReadAnswer) (s s′ : List ℕ) → Reads t buffer r s → Reads t buffer r′ s′ → (r ≡ r′) × (s ≡ s′)
-reads-one t buffer r r′ s s′ a b = (read-same r r′ (a .answered ∙ sym (b .answered)), a .left ∙ sym (b .left))
-
-write-same : (r r′ : WriteAnswer) → writeGiven r ≡ writeGiven r′ → r ≡ r′
-write-same (write.Done n) (write.Done m) e = let k : n ≡ m = cc in ap write.Done k
-write-same (write.Done n) (write.Refused m) e = never (cc)
-write-same (write.Refused n) (write.Done m) e = never (cc)
-write-same (write.Refused n) (write.Refused m) e = let k : n ≡ m = cc in ap write.Refused k
-
-pub writes-one : (s t locks : List ℕ) (r r′ : WriteAnswer) (tag tag′ : List ℕ) → Writes s t locks r tag → Writes s t locks r′ tag′ → (r ≡ r′) × (tag ≡ tag′)
-writes-one s t locks r r′ tag tag′ a b = (write-same r r′ (a .answered ∙ sym (b .answered)), a .left ∙ sym (b .left))
+pub writes-one : (s t locks : List ℕ) (r r′ : NumberAnswer) (tag tag′ : List ℕ) → Writes s t locks r tag → Writes s t locks r′ tag′ → (r ≡ r′) × (tag ≡ tag′)
+writes-one s t locks r r′ tag tag′ a b = (answer-same r r′ (a .answered ∙ sym (b .answered)), a .left ∙ sym (b .left))
 
 edit-same : (r r′ : EditAnswer) → editGiven r ≡ editGiven r′ → r ≡ r′
 edit-same (edit.Done p o) (edit.Done q m) e = let k = got-inj e in ap₂ edit.Done (ap (λ (x : Edited). x .pages) k) (ap (λ (x : Edited). x .old) k)
@@ -181,7 +167,7 @@ written-reads-back p s t locks k e buffer room =
 -- what is read is sound, and its layout exists and is no longer than what was read
 pub what-is-read : (p : ℕ) (t : List ℕ) → bytes t ≡ true → goodSize p (length t) ≡ true → Readable t
     → (sound (contentIn t) ≡ true) × (fits (length t) (contentIn t) ≡ true)
-    × (length (laidOut (length t) (contentIn t)) ≤ 21 + ownerWidth (length t) + length (joined (blocksIn t)))
+    × (length (laidOut (length t) (contentIn t .slots) (joined (contentIn t .carried))) ≤ 21 + ownerWidth (length t) + length (joined (blocksIn t)))
 what-is-read p t y g r = (read-sound t y r, read-fits p t y g r, laid-shorter p t y g r)
 
 -- no offset of a sheet that is read passes 65,535

@@ -15,7 +15,7 @@ use Rattle.format.specs.Pages.{goodSize}
 use Rattle.format.specs.Fields.{isilOf, hyphen, blank, alternate, alternative, marked, prefixIn, ownerSaid, goodOwner, long, packed, basicOwner}
 use Rattle.format.specs.Chain.{isLibrary, walk, chain, libraryBlock, otherBlocks, Library, payload, lastField, libraryIn, libraryBytes, sealed, blockOne}
 use Rattle.format.specs.Elements.{Content, numbers, placeIn, place}
-use Rattle.format.specs.Layout.{ownerWidth, ownerOf, library, basic, laidOut, fits}
+use Rattle.format.specs.Layout.{ownerWidth, ownerOf, library, basic, laidOut, fits, hasLayout}
 use Rattle.format.specs.Reading.{mainUsage, itemIn, ownerIn, blocksIn, libraryOn, ownerOn, contentIn, Readable}
 use Rattle.format.proofs.Tests.{never, beq-false, and-i, or-r}
 use Rattle.format.proofs.Strings.{some-behind, part-length, strip-length, strip-strip, length-pad, up-to-before, past-before}
@@ -161,7 +161,7 @@ module _ (t : List ℕ) (r : Readable t) where
   f = libraryOn t
 
   again : ℕ → Library
-  again n = library n c
+  again n = library n (c .slots)
 
   less-media : (m : ℕ) → getD (if eqb m 0 then [] else m ∷ []) 0 0 ≡ m
   less-media m = go (eqb m 0) refl
@@ -206,7 +206,7 @@ module _ (t : List ℕ) (r : Readable t) where
       go true = refl
       go false = nil o
 
-  owner-again : ownerOf c ≡ ownerOn t
+  owner-again : ownerOf (c .slots) ≡ ownerOn t
   unfolding contentIn place placeIn numbers
   owner-again = either-owner (ownerOn t)
 
@@ -237,12 +237,12 @@ module _ (t : List ℕ) (r : Readable t) where
   }
 
   -- block 1 is no longer than it was
-  pub block-shorter : (n : ℕ) → length (ownerIn t) ≤ ownerWidth n → length (blockOne (library n (contentIn t))) ≤ length (libraryBlock (blocksIn t))
+  pub block-shorter : (n : ℕ) → length (ownerIn t) ≤ ownerWidth n → length (blockOne (library n (contentIn t .slots))) ≤ length (libraryBlock (blocksIn t))
   unfolding again
   block-shorter n l =
       let b : List ℕ = libraryBlock (blocksIn t) in
       let lt = library-tests b (fields-parts t (r .fields) .library) in
-      less-block (library n (contentIn t)) b (omega (arith, less-bytes (library n (contentIn t)) f (again-less n l), ap length (library-rebuilt b (lt .0))))
+      less-block (library n (contentIn t .slots)) b (omega (arith, less-bytes (library n (contentIn t .slots)) f (again-less n l), ap length (library-rebuilt b (lt .0))))
 
 -- ---- how many bytes the blocks have
 
@@ -283,26 +283,26 @@ module _ (p : ℕ) (t : List ℕ) (y : bytes t ≡ true) (g : goodSize p (length
   own-in-width : length (ownerIn t) ≤ ownerWidth (length t)
   own-in-width = omega (arith, strip-length (part 21 13 t), length-take 13 (drop 21 t), length-drop 21 t)
 
-  laid-blocks : length (blockOne (library (length t) (contentIn t)) ++ joined (contentIn t .carried)) ≤ length (joined (blocksIn t))
+  laid-blocks : length (blockOne (library (length t) (contentIn t .slots)) ++ joined (contentIn t .carried)) ≤ length (joined (blocksIn t))
   unfolding contentIn
   laid-blocks =
-      let one : List ℕ = blockOne (library (length t) (contentIn t)) in
+      let one : List ℕ = blockOne (library (length t) (contentIn t .slots)) in
       omega (arith, length-append one (joined (otherBlocks (blocksIn t))), block-shorter t r (length t) own-in-width, split-total (blocksIn t))
 
   wide : (3 ≤ ownerWidth (length t)) × (21 + ownerWidth (length t) + (length t - 34) ≤ length t)
   wide = elim (size-cases p (length t) g) [ inl e ↦ rw e (omega arith, omega arith) | inr e ↦ (omega arith, omega arith) ]
 
   -- it is no longer than what was read: the basic block and the blocks
-  pub laid-shorter : length (laidOut (length t) (contentIn t)) ≤ 21 + ownerWidth (length t) + length (joined (blocksIn t))
+  pub laid-shorter : length (laidOut (length t) (contentIn t .slots) (joined (contentIn t .carried))) ≤ 21 + ownerWidth (length t) + length (joined (blocksIn t))
   unfolding laidOut
   laid-shorter =
       let n : ℕ = length t in
       let c : Content = contentIn t in
-      omega (arith, length-append (basic n c) (blockOne (library n c) ++ joined (c .carried)), basic-length n c (wide .0), laid-blocks)
+      omega (arith, length-append (basic n (c .slots)) (blockOne (library n (c .slots)) ++ joined (c .carried)), basic-length n c (wide .0), laid-blocks)
 
   -- so it exists
   pub read-fits : fits (length t) (contentIn t) ≡ true
-  unfolding fits
+  unfolding hasLayout
   read-fits =
-      and-i (le-leb (length (blockOne (library (length t) (contentIn t)))) 255 (omega (arith, block-shorter t r (length t) own-in-width, library-short (blocksIn t) (blocks-handed t y r))))
-      (le-leb (length (laidOut (length t) (contentIn t))) (length t) (omega (arith, laid-shorter, blocks-total t r, wide .1)))
+      and-i (le-leb (length (blockOne (library (length t) (contentIn t .slots)))) 255 (omega (arith, block-shorter t r (length t) own-in-width, library-short (blocksIn t) (blocks-handed t y r))))
+      (le-leb (length (laidOut (length t) (contentIn t .slots) (joined (contentIn t .carried)))) (length t) (omega (arith, laid-shorter, blocks-total t r, wide .1)))

@@ -11,7 +11,6 @@ use lib.Seq.{set-set, set-getD}
 use borrow.Author.Tests.{eqb-true, ne-eqb, ltb-true}
 use Rattle.format.specs.Bytes.{if_then_else_, isEmpty, all}
 use Rattle.format.specs.Elements.{Content, numbers, placeIn, place, known, el, put, shape, form, value, clash, valuesAt, sound}
-use Rattle.format.specs.Slices.{Valued}
 use Rattle.format.specs.Fields.{long}
 use Rattle.format.specs.Chain.{carriable}
 use Rattle.format.proofs.Tests.{never, and-l, and-r, and-i, not-t, or-false, all-mono}
@@ -29,14 +28,6 @@ values-at [] ss e i h = absurd (not-suc-le-zero h)
 values-at (n ∷ ns) [] e i h = never (cc)
 values-at (n ∷ ns) (s ∷ ss) e zero h = and-l (value n s) (valuesAt ns ss) e
 values-at (n ∷ ns) (s ∷ ss) e (suc i) h = values-at ns ss (and-r (value n s) (valuesAt ns ss) e) i (le-of-suc-le-suc h)
-
--- number by number
-pub values-valued : (ss : List (List ℕ)) → valuesAt numbers ss ≡ true
-    → Valued (getD ss 0 []) (getD ss 1 []) (getD ss 2 []) (getD ss 3 []) (getD ss 4 []) (getD ss 5 []) (getD ss 6 [])
-unfolding numbers
-values-valued ss e =
-    let v = values-at numbers ss e in
-    record { v1 = v 0 (lit< tt); v3 = v 1 (lit< tt); v4 = v 2 (lit< tt); v5 = v 3 (lit< tt); v19 = v 4 (lit< tt); v22 = v 5 (lit< tt); v23 = v 6 (lit< tt) }
 
 -- another value in the place of a number
 pub values-set : (ns : List ℕ) (ss : List (List ℕ)) (i : ℕ) (s : List ℕ) → valuesAt ns ss ≡ true → value (getD ns i 0) s ≡ true → valuesAt ns (set ss i s) ≡ true
@@ -63,7 +54,7 @@ listed c = record { slots = el c 1 ∷ el c 3 ∷ el c 4 ∷ el c 5 ∷ el c 19 
 
 pub record Facts (c : Content) : Type 0 where
   pub eta : listed c ≡ c
-  pub values : Valued (el c 1) (el c 3) (el c 4) (el c 5) (el c 19) (el c 22) (el c 23)
+  pub values : (n : ℕ) → known n ≡ true → value n (el c n) ≡ true
   pub owners : not (isEmpty (el c 3)) && not (isEmpty (el c 23)) ≡ false
   pub items : not (isEmpty (el c 22)) && long (el c 1) ≡ false
   pub rest : all carriable (c .carried) ≡ true
@@ -87,19 +78,27 @@ form-carriable b e = and-l (carriable b) (leb (length b) 255) e
 pub record Sound (c : Content) : Type 0 where
   pub values : valuesAt numbers (c .slots) ≡ true
   pub blocks : all (form 255) (c .carried) ≡ true
-  pub clear : clash c ≡ false
+  pub clear : clash (c .slots) ≡ false
 
 pub sound-parts : (c : Content) → sound c ≡ true → Sound c
 unfolding sound
 sound-parts c e =
     let v : Bool = valuesAt numbers (c .slots) in
     let b : Bool = all (form 255) (c .carried) in
-    let vb = and-l (v && b) (not (clash c)) e in
-    record { values = and-l v b vb; blocks = and-r v b vb; clear = not-t (clash c) (and-r (v && b) (not (clash c)) e) }
+    let vb = and-l (v && b) (not (clash (c .slots))) e in
+    record { values = and-l v b vb; blocks = and-r v b vb; clear = not-t (clash (c .slots)) (and-r (v && b) (not (clash (c .slots))) e) }
 
 pub parts-sound : (c : Content) → Sound c → sound c ≡ true
 unfolding sound
 parts-sound c k = and-i (and-i (k .values) (k .blocks)) (ap not (k .clear))
+
+-- the number that stands at a known number's place
+pub known-at : (n : ℕ) → known n ≡ true → (place n < length numbers) × (getD numbers (place n) 0 ≡ n)
+unfolding known place
+known-at n k = let h = ltb-true (placeIn numbers n) (length numbers) k in (h, place-number numbers n h)
+
+pub value-of : (c : Content) → sound c ≡ true → (n : ℕ) → known n ≡ true → value n (el c n) ≡ true
+value-of c sc n kn = let k = known-at n kn in rw (k .1) at (values-at numbers (c .slots) (sound-parts c sc .values) (place n) (k .0))
 
 pub sound-facts : (c : Content) → sound c ≡ true → Facts c
 unfolding numbers place placeIn clash
@@ -108,18 +107,13 @@ sound-facts c e =
     let cl = or-false _ _ (k .clear) in
     record {
       eta = ap (λ (l : List (List ℕ)). record { slots = l; carried = c .carried }) (seven (c .slots) (values-length numbers (c .slots) (k .values)));
-      values = values-valued (c .slots) (k .values);
+      values = value-of c e;
       owners = cl .0;
       items = cl .1;
       rest = all-mono (form 255) carriable form-carriable (c .carried) (k .blocks);
     }
 
 -- ---- one element set
-
--- the number that stands at a known number's place
-pub known-at : (n : ℕ) → known n ≡ true → (place n < length numbers) × (getD numbers (place n) 0 ≡ n)
-unfolding known place
-known-at n k = let h = ltb-true (placeIn numbers n) (length numbers) k in (h, place-number numbers n h)
 
 -- no number above 255 is one of the table
 pub wide-unknown : (n : ℕ) → 255 < n → known n ≡ false
@@ -136,10 +130,7 @@ wide-unknown n h =
     )
 
 module _ (c : Content) (sc : sound c ≡ true) (n : ℕ) (kn : known n ≡ true) where
-  pub value-of : value n (el c n) ≡ true
-  value-of = let k = known-at n kn in rw (k .1) at (values-at numbers (c .slots) (sound-parts c sc .values) (place n) (k .0))
-
-  pub put-sound : (s : List ℕ) → value n s ≡ true → clash (put c n s) ≡ false → sound (put c n s) ≡ true
+  pub put-sound : (s : List ℕ) → value n s ≡ true → clash (put c n s .slots) ≡ false → sound (put c n s) ≡ true
   unfolding put
   put-sound s v k =
       let p = sound-parts c sc in

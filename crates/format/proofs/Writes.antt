@@ -93,7 +93,7 @@ module _ (p : ℕ) (locks t₀ t : List ℕ) (c : Content) (o : Own c t) (n : le
   own-passes v l =
       next-ok _ _ _ v (ap (λ (k : ℕ). goodSize p k && lockMap p locks k) n ∙ z) ∙ next-ok _ _ _ v (right .0)
       ∙ next-ok _ _ _ v (ap goodValues (right .1) ∙ content-entries c (o .sane) .values) ∙ laid-on p locks t₀ (sheetContent sheet) v (record {
-        clear = ap clash own-content ∙ sound-parts c (o .sane) .clear;
+        clear = ap (λ (x : Content). clash (x .slots)) own-content ∙ sound-parts c (o .sane) .clear;
         fit = ap₂ fits n own-content ∙ o .fit;
         unlocked = ap (lockedChanged p locks t₀) own-image ∙ kept-locked p locks t₀ t l;
       })

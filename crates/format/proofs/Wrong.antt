@@ -14,7 +14,7 @@ use Rattle.format.specs.Fields.{textByte, text, capital, unitByte, isilO
 use Rattle.format.specs.Chain.{wellFormed, carriable, walk, chain, libraryBlock, otherBlocks, payload, lastField, libraryIn, goodLibrary, libraryBytes, sealed, blockOne}
 use Rattle.format.specs.Elements.{Content, numbers, setInfo, shape, form, value, placeIn, place, known, el, put, clash, valuesAt, sound}
 use Rattle.format.specs.Sheet.{heads, bodies, sheetOf, offsetsFit, risingFrom, rising, cut, entriesIn, rightSheet, find, carriedIn, contentOf, goodValues, entriesAt, carriedEntries, entries}
-use Rattle.format.specs.Layout.{library, front, basic, laidOut, image, fits}
+use Rattle.format.specs.Layout.{library, front, basic, laidOut, image, layout, hasLayout}
 use Rattle.format.specs.Reading.{goodFields, agree, ownerOn, contentIn, tagSteps}
 use Rattle.format.specs.Calls.{readSteps, layingSteps, sheetContent, writeSteps, ownLayout, editSteps, Edited, Reader, Writer, Editor}
 use Rattle.format.specs.History.{Own, Edit, noted, edited, run, Undone}
@@ -71,14 +71,14 @@ record Facts : Type 0 where
   pages-again : changed pageSize wholeTag wholeTag ≡ 0
   pages-edited : changed pageSize wholeTag (image (length wholeTag) (put whole 1 item)) ≡ 3
   pages-same : changed pageSize wholeTag (image (length wholeTag) (put whole 1 (el whole 1))) ≡ 0
-  used-laid : length (laidOut 40 whole) ≡ 34
+  used-laid : length (laidOut 40 (whole .slots) (joined (whole .carried))) ≡ 34
   used-byte : getD (image 40 whole) 36 0 ≡ 0
-  book-laid : length (laidOut (length tag2) (put (contentIn tag2) 19 [])) ≡ 68
+  book-laid : length (laidOut (length tag2) (put (contentIn tag2) 19 [] .slots) (joined (put (contentIn tag2) 19 [] .carried))) ≡ 68
   book-byte : getD tag2 70 0 ≡ 0x35
   new-book-byte : getD (image (length tag2) (put book 19 [])) 70 0 ≡ 0
 
 facts : Facts
-unfolding item otherSheet used isilUs isilDk fieldDk wholeSheet wholeFront wholeTag item2 acquisition tag2 sheet2 need inOrder afterwards andThen orElse passed all same le16 word padWith trim strip upTo past xorAll joined goodSize lockMap differs lockedDiffers count changed lockedChanged crcBit crcBits crcByte crcFrom crc covered textByte text capital unitByte isilOf isil alternative isOwner goodItem prefixIn ownerSaid goodOwner itemField packed basicOwner ownerField wellFormed carriable walk chain libraryBlock otherBlocks payload lastField libraryIn goodLibrary libraryBytes sealed blockOne numbers setInfo shape form value placeIn place known put clash valuesAt sound heads bodies sheetOf offsetsFit risingFrom rising cut entriesIn rightSheet find carriedIn contentOf goodValues entriesAt carriedEntries entries library front basic laidOut image fits goodFields agree ownerOn contentIn tagSteps layingSteps ownLayout readSteps writeSteps editSteps
+unfolding item otherSheet used isilUs isilDk fieldDk wholeSheet wholeFront wholeTag item2 acquisition tag2 sheet2 need inOrder afterwards andThen orElse passed all same le16 word padWith trim strip upTo past xorAll joined goodSize lockMap differs lockedDiffers count changed lockedChanged crcBit crcBits crcByte crcFrom crc covered textByte text capital unitByte isilOf isil alternative isOwner goodItem prefixIn ownerSaid goodOwner itemField packed basicOwner ownerField wellFormed carriable walk chain libraryBlock otherBlocks payload lastField libraryIn goodLibrary libraryBytes sealed blockOne numbers setInfo shape form value placeIn place known put clash valuesAt sound heads bodies sheetOf offsetsFit risingFrom rising cut entriesIn rightSheet find carriedIn contentOf goodValues entriesAt carriedEntries entries library front basic laidOut layout hasLayout goodFields agree ownerOn contentIn tagSteps layingSteps ownLayout readSteps writeSteps editSteps
 facts = record {
   read-whole = refl;
   write-whole = refl;
@@ -174,7 +174,7 @@ module _ (write : Writer) (exact : WritesExactly write) (lays : LaysDown write) 
       omega (arith, one pageSize wholeSheet (zeros 36) (zeros 9) wholeTag (a .0) (b .0) (a .1) (b .1))
 
   -- behind the end mark
-  pub writer-keeping-bytes : ((p : ℕ) (s t locks : List ℕ) (k : ℕ) → write p s t locks .answer ≡ got k → (i : ℕ) → length (laidOut (length t) (sheetContent s)) < i
+  pub writer-keeping-bytes : ((p : ℕ) (s t locks : List ℕ) (k : ℕ) → write p s t locks .answer ≡ got k → (i : ℕ) → length (laidOut (length t) (sheetContent s .slots) (joined (sheetContent s .carried))) < i
       → getD (write p s t locks .tag) i 0 ≡ getD t i 0) → ⊥
   unfolding used
   writer-keeping-bytes keeps =
@@ -218,7 +218,7 @@ module _ (write : Writer) (edit : Editor) (exact : EditsExactly edit) (every : E
 
   -- behind the end mark: B.2 without its element 19 has no block 1, and the block behind it moves
   pub editor-keeping-bytes : ((p : ℕ) (t locks : List ℕ) (n : ℕ) (s buffer : List ℕ) (r : Edited) → edit p t locks n s buffer .answer ≡ got r
-      → (i : ℕ) → length (laidOut (length t) (put (contentIn t) n s)) < i → getD (edit p t locks n s buffer .tag) i 0 ≡ getD t i 0) → ⊥
+      → (i : ℕ) → length (laidOut (length t) (put (contentIn t) n s .slots) (joined (put (contentIn t) n s .carried))) < i → getD (edit p t locks n s buffer .tag) i 0 ≡ getD t i 0) → ⊥
   editor-keeping-bytes keeps =
       let w = edits tag2 (zeros 19) book (facts .book-own) 19 [] (facts .edit-media) in
       let z : _≡_ {A = ℕ} 0 0x35 =

@@ -42,7 +42,7 @@ reading p t buffer =
 -- 10 Clash, 11 Large, 12 Locked: the last refusals before elements c are laid down on tag t
 unfoldable pub layingSteps : ℕ → List ℕ → List ℕ → Content → List Step
 layingSteps p locks t c =
-    need 10 (not (clash c)) ∷
+    need 10 (not (clash (c .slots))) ∷
     need 11 (fits (length t) c) ∷
     need 12 (eqb (lockedChanged p locks t (image (length t) c)) 0) ∷
     []

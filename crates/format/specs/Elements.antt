@@ -69,17 +69,21 @@ place n = placeIn numbers n
 unfoldable pub known : ℕ → Bool
 known n = ltb (place n) (length numbers)
 
+-- the string of a number among them
+abbrev pub slot : List (List ℕ) → ℕ → List ℕ
+slot ss n = getD ss (place n) []
+
 -- the element with a number
 abbrev pub el : Content → ℕ → List ℕ
-el c n = getD (c .slots) (place n) []
+el c n = slot (c .slots) n
 
 -- the elements with another string for a number: no bytes means remove
 unfoldable pub put : Content → ℕ → List ℕ → Content
 put c n s = record { slots = set (c .slots) (place n) s; carried = c .carried }
 
 -- 3 and 23 clash; 22 clashes with a 1 longer than 16 bytes
-unfoldable pub clash : Content → Bool
-clash c = (not (isEmpty (el c 3)) && not (isEmpty (el c 23))) || (not (isEmpty (el c 22)) && long (el c 1))
+unfoldable pub clash : List (List ℕ) → Bool
+clash ss = (not (isEmpty (slot ss 3)) && not (isEmpty (slot ss 23))) || (not (isEmpty (slot ss 22)) && long (slot ss 1))
 
 -- a string for each number, each with its value
 unfoldable pub valuesAt : List ℕ → List (List ℕ) → Bool
@@ -90,4 +94,4 @@ valuesAt (n ∷ ns) (s ∷ ss) = value n s && valuesAt ns ss
 
 -- the elements that a sheet may hold
 unfoldable pub sound : Content → Bool
-sound c = valuesAt numbers (c .slots) && all (form 255) (c .carried) && not (clash c)
+sound c = valuesAt numbers (c .slots) && all (form 255) (c .carried) && not (clash (c .slots))

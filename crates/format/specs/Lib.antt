@@ -6,7 +6,6 @@ pub mod Crc
 pub mod Fields
 pub mod Chain
 pub mod Elements
-pub mod Slices
 pub mod Sheet
 pub mod Layout
 pub mod Reading

@@ -8,22 +8,16 @@ use mathlib.Core.List.{List, [], _∷_}
 use Rattle.format.specs.Answers.{Answer, Refusal, plain, got, refused, Step}
 use Rattle.format.specs.Pages.{pageSize}
 use Rattle.format.specs.Calls.{reading, writing, Edited, editing}
-use Rattle.format.specs.declared.ReadAnswer.{ReadAnswer}
-use Rattle.format.specs.declared.ReadAnswer.the-variants as read
-use Rattle.format.specs.declared.WriteAnswer.{WriteAnswer}
-use Rattle.format.specs.declared.WriteAnswer.the-variants as write
+use Rattle.format.specs.declared.NumberAnswer.{NumberAnswer}
+use Rattle.format.specs.declared.NumberAnswer.the-variants as number
 use Rattle.format.specs.declared.EditAnswer.{EditAnswer}
 use Rattle.format.specs.declared.EditAnswer.the-variants as edit
 use Rattle.format.specs.declared.Stage.{Stage}
 use Rattle.format.specs.declared.Stage.the-variants as stage
 
-abbrev pub readGiven : ReadAnswer → Answer ℕ
-readGiven (read.Done n) = got n
-readGiven (read.Refused k) = refused (plain k)
-
-abbrev pub writeGiven : WriteAnswer → Answer ℕ
-writeGiven (write.Done n) = got n
-writeGiven (write.Refused k) = refused (plain k)
+abbrev pub answerGiven : NumberAnswer → Answer ℕ
+answerGiven (number.Done n) = got n
+answerGiven (number.Refused k) = refused (plain k)
 
 abbrev pub editGiven : EditAnswer → Answer Edited
 editGiven (edit.Done p o) = got (record { pages = p; old = o })
@@ -67,13 +61,13 @@ resultOf f (refused x) before = before
 -- ---- the contracts
 
 -- reading tag t into the lent sheet buffer answered r and left `sheet` in the buffer
-pub record Reads (t buffer : List ℕ) (r : ReadAnswer) (sheet : List ℕ) : Type 0 where
-  pub answered : readGiven r ≡ reading pageSize t buffer .answer
+pub record Reads (t buffer : List ℕ) (r : NumberAnswer) (sheet : List ℕ) : Type 0 where
+  pub answered : answerGiven r ≡ reading pageSize t buffer .answer
   pub left : sheet ≡ reading pageSize t buffer .sheet
 
 -- writing sheet s onto tag t answered r and left `tag` there
-pub record Writes (s t locks : List ℕ) (r : WriteAnswer) (tag : List ℕ) : Type 0 where
-  pub answered : writeGiven r ≡ writing pageSize s t locks .answer
+pub record Writes (s t locks : List ℕ) (r : NumberAnswer) (tag : List ℕ) : Type 0 where
+  pub answered : answerGiven r ≡ writing pageSize s t locks .answer
   pub left : tag ≡ writing pageSize s t locks .tag
 
 -- editing element n of tag t answered r, left `tag` there and `old` in the old-element buffer

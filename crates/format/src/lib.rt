@@ -1,16 +1,10 @@
 // The answers of the three calls and of their stages. What each case means is said in `specs/Numbers.antt`; the refusals' numbers are the
 // paper's.
 ghost use mathlib.Core.Path.{_≡_};
-ghost use Rattle.format.specs.Numbers.{numberOf, stageGiven};
+ghost use Rattle.format.specs.Numbers.{numberOf, answerGiven, stageGiven};
 
-// Reading: the sheet's length, or the number of the refusal.
-pub enum ReadAnswer {
-    Done(usize),
-    Refused(u32),
-}
-
-// Writing: the count of pages changed, or the number of the refusal.
-pub enum WriteAnswer {
+// A number, or the number of the refusal. Reading gives the sheet's length, writing the count of pages changed.
+pub enum NumberAnswer {
     Done(usize),
     Refused(u32),
 }
@@ -34,6 +28,16 @@ pub fn stage_number(stage: Stage) -> u32
     match stage {
         Stage::Passed => 0,
         Stage::Refused(k) => k,
+    }
+}
+
+// The number of an answer's refusal, 0 for none.
+pub fn answer_number(answer: NumberAnswer) -> u32
+    ensures { λ r. ⌜ r ≡ numberOf (answerGiven answer) ⌝ }
+{
+    match answer {
+        NumberAnswer::Done(_) => 0,
+        NumberAnswer::Refused(k) => k,
     }
 }
 
