@@ -5,22 +5,34 @@ ghost use mathlib.Core.Bool.{_||_};
 ghost use lib.ListN.{length, take, drop, getD};
 ghost use Rattle.format.specs.Bytes.{isEmpty, all, between, strip, upTo, past};
 ghost use Rattle.format.specs.Fields.{text, capital, unitByte, isilOf, isil, alternative, isOwner, marked, prefixIn};
-ghost use Rattle.fields.specs.Forms.{itemForm, ownerForm, libraryForm};
+ghost use Rattle.format.specs.Numbers.{numberOf};
+ghost use Rattle.fields.specs.declared.OwnerField.the-variants as owner;
+ghost use Rattle.fields.specs.Forms.{itemForm, ownerForm, libraryForm, itemGiven, ownerGiven, libraryGiven};
 
-// What an item field of the basic block holds: text of a length (0: nothing), or the marker 01; or refusal 6, it breaks its form.
+// What a good item field of the basic block holds: the marker 01, or text of `len` bytes, 0 for nothing.
+pub struct ItemParts {
+    pub marked: bool,
+    pub len: usize,
+}
+
+// The item field; or refusal 6, it breaks its form.
 pub enum ItemField {
-    Text(usize),
-    Marked,
+    Good(ItemParts),
     Refused(u32),
 }
 
-// What an owner field of the basic block holds: nothing, the marker, an alternative owner of a length from the third byte on,
-// or an ISIL of a prefix and a unit of these lengths; or refusal 6, it breaks its form.
+// What a good owner field of the basic block holds: the marker; or an ISIL, a prefix of `prefix` bytes and a unit of `isil` bytes from the
+// third byte on; or an alternative owner of `other` bytes from the third byte on; or nothing.
+pub struct OwnerParts {
+    pub marked: bool,
+    pub prefix: usize,
+    pub isil: usize,
+    pub other: usize,
+}
+
+// The owner field; or refusal 6, it breaks its form.
 pub enum OwnerField {
-    Nothing,
-    Marked,
-    Alternative(usize),
-    Isil { prefix: usize, unit: usize },
+    Good(OwnerParts),
     Refused(u32),
 }
 
@@ -242,10 +254,16 @@ pub fn item_in(field: &[u8]) -> ItemField
 {
     let item = held(field);
     if is_marker(item) {
-        return ItemField::Marked;
+        return ItemField::Good(ItemParts {
+            marked: true,
+            len: 0,
+        });
     }
     if text(item) {
-        return ItemField::Text(item.len());
+        return ItemField::Good(ItemParts {
+            marked: false,
+            len: item.len(),
+        });
     }
     ItemField::Refused(6)
 }
@@ -260,30 +278,36 @@ fn prefix_in(field: &[u8]) -> &[u8]
     front(field, 2)
 }
 
+// An owner field with these parts.
+fn good_owner(marked: bool, prefix: usize, isil: usize, other: usize) -> OwnerField
+    ensures { λ r. ⌜ r ≡ owner.Good (record { marked = marked; prefix = prefix; isil = isil; other = other }) ⌝ }
+{
+    OwnerField::Good(OwnerParts {
+        marked,
+        prefix,
+        isil,
+        other,
+    })
+}
+
 // What the owner field of a basic block holds. Its third byte chooses the form.
 pub fn owner_in(field: &[u8]) -> OwnerField
     ensures { λ r. ⌜ r ≡ ownerForm (now (field .entry)) ⌝ }
 {
     let owner = held(field);
-    if owner.len() == 0 {
-        return OwnerField::Nothing;
-    }
     let said = from(owner, 2);
-    if is_marker(said) {
-        return OwnerField::Marked;
+    if owner.len() == 0 || is_marker(said) {
+        return good_owner(owner.len() != 0, 0, 0, 0);
     }
     if byte_at(owner, 2) <= 3 {
         if alternative(said) {
-            return OwnerField::Alternative(said.len());
+            return good_owner(false, 0, 0, said.len());
         }
         return OwnerField::Refused(6);
     }
     let prefix = prefix_in(owner);
     if isil_of(prefix, said) {
-        return OwnerField::Isil {
-            prefix: prefix.len(),
-            unit: said.len(),
-        };
+        return good_owner(false, prefix.len(), said.len(), 0);
     }
     OwnerField::Refused(6)
 }
@@ -326,4 +350,34 @@ pub fn library_in(block: &[u8]) -> LibraryField
         owner: owner.len(),
         usage: byte_at(last, 0),
     })
+}
+
+// The number of the item field's refusal, 0 for none.
+pub fn item_number(field: ItemField) -> u32
+    ensures { λ r. ⌜ r ≡ numberOf (itemGiven field) ⌝ }
+{
+    match field {
+        ItemField::Good(_) => 0,
+        ItemField::Refused(k) => k,
+    }
+}
+
+// Of the owner field's.
+pub fn owner_number(field: OwnerField) -> u32
+    ensures { λ r. ⌜ r ≡ numberOf (ownerGiven field) ⌝ }
+{
+    match field {
+        OwnerField::Good(_) => 0,
+        OwnerField::Refused(k) => k,
+    }
+}
+
+// Of block 1's.
+pub fn library_number(field: LibraryField) -> u32
+    ensures { λ r. ⌜ r ≡ numberOf (libraryGiven field) ⌝ }
+{
+    match field {
+        LibraryField::Good(_) => 0,
+        LibraryField::Refused(k) => k,
+    }
 }

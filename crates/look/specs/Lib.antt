@@ -1,3 +1,3 @@
-pub mod Places
-pub mod View
+pub mod Row
 pub mod Looking
+pub mod View

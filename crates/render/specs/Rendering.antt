@@ -1,18 +1,19 @@
 -- Rendering: the entries that a sheet is made of, and what is answered. The sheet itself is document 01's ("The sheet"), as `format`
 -- defines it.
 use mathlib.Core.Path.{_≡_}
-use Prim.Native.Nat.{ℕ, _≤_}
-use mathlib.Core.List.{List, [], _∷_}
+use mathlib.Core.Bool.{true}
+use Prim.Native.Nat.{ℕ, _+_, _≤_}
+use mathlib.Core.List.{List, [], _∷_, _++_}
 use lib.ListN.{length}
-use lib.Dec.{leb}
-use Rattle.format.specs.Answers.{Answer, need, inOrder, afterwards}
-use Rattle.format.specs.Bytes.{filled}
+use lib.Dec.{leb, eqb}
+use Rattle.format.specs.Answers.{Answer, got, need, inOrder, afterwards}
+use Rattle.format.specs.Bytes.{if_then_else_, bytes, le16, joined, filled}
 use Rattle.format.specs.Chain.{otherBlocks}
-use Rattle.format.specs.Elements.{numbers}
-use Rattle.format.specs.Numbers.{readGiven}
-use Rattle.format.specs.Reading.{blocksIn}
-use Rattle.format.specs.Sheet.{Entry, sheetOf, fitting, entriesAt}
-use Rattle.format.specs.declared.ReadAnswer.{ReadAnswer}
+use Rattle.format.specs.Numbers.{answerGiven}
+use Rattle.format.specs.Reading.{walked, blocksIn}
+use Rattle.format.specs.Sheet.{Entry, sheetOf, fitting}
+use Rattle.format.specs.declared.NumberAnswer.{NumberAnswer}
+use Rattle.rows.specs.Rows.{Row}
 
 -- ---- entries
 
@@ -20,29 +21,37 @@ use Rattle.format.specs.declared.ReadAnswer.{ReadAnswer}
 abbrev pub carriedOn : List ℕ → List (List ℕ)
 carriedOn t = otherBlocks (blocksIn t)
 
--- the entry with a number; none where it has no bytes
-abbrev pub entryOf : ℕ → List ℕ → List Entry
-entryOf n s = entriesAt (n ∷ []) (s ∷ [])
+-- ---- elements by their lengths; one of no bytes has no entry
 
--- how many entries that is
-unfoldable pub countOf : List ℕ → ℕ
-countOf [] = 0
-countOf (x ∷ s) = 1
+-- the head of an entry of len bytes
+abbrev pub headBy : ℕ → ℕ → ℕ → List ℕ
+headBy at n len = if eqb len 0 then [] else n ∷ le16 at ++ (len ∷ [])
 
--- the entries of the elements with the numbers of the table
-abbrev pub numbered : List ℕ → List ℕ → List ℕ → List ℕ → List ℕ → List ℕ → List ℕ → List Entry
-numbered item isil set usage media second other =
-    entriesAt numbers (item ∷ isil ∷ set ∷ usage ∷ media ∷ second ∷ other ∷ [])
+-- the heads of elements with these numbers; the first one's bytes begin at `at`
+unfoldable pub headsBy : ℕ → List ℕ → List ℕ → List ℕ
+headsBy at [] lens = []
+headsBy at (n ∷ ns) [] = []
+headsBy at (n ∷ ns) (len ∷ lens) = headBy at n len ++ headsBy (at + len) ns lens
 
--- a sheet gives the length of each one byte
-pub record Short (item isil set usage media second other : List ℕ) : Type 0 where
-  pub l1 : length item ≤ 255
-  pub l3 : length isil ≤ 255
-  pub l4 : length set ≤ 255
-  pub l5 : length usage ≤ 255
-  pub l19 : length media ≤ 255
-  pub l22 : length second ≤ 255
-  pub l23 : length other ≤ 255
+-- how many entries they have, and how many bytes
+unfoldable pub countBy : List ℕ → ℕ
+countBy [] = 0
+countBy (len ∷ lens) = (if eqb len 0 then 0 else 1) + countBy lens
+
+unfoldable pub sizeBy : List ℕ → ℕ
+sizeBy [] = 0
+sizeBy (len ∷ lens) = len + sizeBy lens
+
+-- ---- what rendering relies on: a chain that is whole, its carried blocks counted, and a row of elements
+
+pub record Renderable (t made ats lens : List ℕ) (count size : ℕ) (blocks : List ℕ) : Type 0 where
+  pub whole : walked t ≡ got (blocksIn t)
+  pub short : length t ≤ 2048
+  pub counted : count ≡ length (carriedOn t)
+  pub sized : size ≡ length (joined (carriedOn t))
+  pub row : Row t made ats lens
+  pub lengths : bytes lens ≡ true
+  pub piece : length blocks ≡ size → blocks ≡ joined (carriedOn t)
 
 -- ---- the answer
 
@@ -52,6 +61,6 @@ rendering es buffer =
     inOrder (need 14 (fitting es) ∷ need 2 (leb (length (sheetOf es)) (length buffer)) ∷ []) (length (sheetOf es))
 
 -- the entries es were rendered into the lent buffer with answer r, which left `sheet` in it
-pub record Rendered (es : List Entry) (buffer : List ℕ) (r : ReadAnswer) (sheet : List ℕ) : Type 0 where
-  pub answered : readGiven r ≡ rendering es buffer
+pub record Rendered (es : List Entry) (buffer : List ℕ) (r : NumberAnswer) (sheet : List ℕ) : Type 0 where
+  pub answered : answerGiven r ≡ rendering es buffer
   pub left : sheet ≡ afterwards (rendering es buffer) (filled (sheetOf es) buffer) buffer

@@ -1,29 +1,22 @@
-use format::ReadAnswer;
+// The sheet of a tag's elements: document 01, "The sheet".
+use format::NumberAnswer;
 use format::Stage;
 ghost use mathlib.Core.Path.{_≡_};
-ghost use mathlib.Core.List.{[], _∷_};
-ghost use Prim.Native.Nat.{_+_, _*_, _≤_};
+ghost use mathlib.Core.Bool.{true};
+ghost use mathlib.Core.List.{[], _∷_, _++_};
+ghost use Prim.Native.Nat.{_+_, _≤_};
 ghost use lib.ListN.{length};
 ghost use lib.Dec.{leb, ltb};
 ghost use Rattle.format.specs.Answers.{got, need, inOrder};
-ghost use Rattle.format.specs.Bytes.{joined};
+ghost use Rattle.format.specs.Bytes.{joined, bytes};
 ghost use Rattle.format.specs.Chain.{idOf};
+ghost use Rattle.format.specs.Elements.{numbers};
 ghost use Rattle.format.specs.Reading.{walked, blocksIn};
 ghost use Rattle.format.specs.Numbers.{stageGiven};
-ghost use Rattle.format.specs.Sheet.{heads, bodies, carriedEntries, entries};
+ghost use Rattle.format.specs.Sheet.{heads, bodies, carriedEntries, entriesAt, entries};
 ghost use Rattle.format.specs.Pieces.{stored};
-ghost use Rattle.render.specs.Rendering.{carriedOn, entryOf, countOf, numbered, Short, Rendered};
-ghost use Rattle.format.specs.Slices.{elements};
-
-// Copies `piece` to `out` from `at` on; answers the place behind it.
-fn put_bytes(out: &mut [u8], at: usize, piece: &[u8]) -> usize
-    requires { ⌜ at + length (now piece) ≤ length (now out) ⌝ }
-    ensures { λ r. ⌜ stored (now (out .entry)) at (now (piece .entry)) r (now (out .exit)) ⌝ }
-{
-    let end = at + piece.len();
-    bytes::copy(piece, &mut out[at..end]);
-    end
-}
+ghost use Rattle.rows.specs.Rows.{slotsAt, Row};
+ghost use Rattle.render.specs.Rendering.{carriedOn, headBy, headsBy, countBy, sizeBy, Renderable, Rendered};
 
 // Is a block of a whole chain carried? A filler has no ID, the library extension has ID 1.
 fn is_carried(block: &[u8]) -> bool
@@ -45,7 +38,7 @@ fn gather(tag: &[u8], out: &mut [u8], at: usize) -> usize
             return end;
         }
         if is_carried(block) {
-            end = put_bytes(out, end, block);
+            end = strings::put_bytes(out, end, block);
         }
         from += block.len();
     }
@@ -53,18 +46,17 @@ fn gather(tag: &[u8], out: &mut [u8], at: usize) -> usize
 
 // Writes to `sheet` from `at` on the head of the entry with this number: the number, the offset of its bytes (two bytes, low first),
 // their length. Writes nothing where it has no bytes. Answers the place behind the head.
-fn put_head(sheet: &mut [u8], at: usize, offset: usize, number: u8, bytes: &[u8]) -> usize
-    requires { ⌜ (length (now bytes) ≤ 255) × (at + 4 * countOf (now bytes) ≤ length (now sheet)) ⌝ }
-    ensures { λ r. ⌜ (r ≡ at + 4 * countOf (now (bytes .entry)))
-        × stored (now (sheet .entry)) at (heads offset (entryOf number (now (bytes .entry)))) r (now (sheet .exit)) ⌝ }
+fn put_head(sheet: &mut [u8], at: usize, offset: usize, number: u8, len: usize) -> usize
+    requires { ⌜ (len ≤ 255) × (at + length (headBy offset number len) ≤ length (now sheet)) ⌝ }
+    ensures { λ r. ⌜ stored (now (sheet .entry)) at (headBy offset number len) r (now (sheet .exit)) ⌝ }
 {
-    if bytes.len() == 0 {
+    if len == 0 {
         return at;
     }
     sheet[at] = number;
     sheet[at + 1] = (offset % 256) as u8;
     sheet[at + 2] = (offset / 256 % 256) as u8;
-    sheet[at + 3] = bytes.len() as u8;
+    sheet[at + 3] = len as u8;
     at + 4
 }
 
@@ -84,100 +76,80 @@ fn carried_heads(tag: &[u8], sheet: &mut [u8], at: usize, offset: usize) -> usiz
             return end;
         }
         if is_carried(block) {
-            end = put_head(sheet, end, next, 255, block);
+            end = put_head(sheet, end, next, 255, block.len());
             next += block.len();
         }
         from += block.len();
     }
 }
 
-// How many entries an element has: 1, or none where it has no bytes.
-fn entry_count(bytes: &[u8]) -> usize
-    ensures { λ r. ⌜ (r ≤ 1) × (r ≡ countOf (now (bytes .entry))) ⌝ }
+// How many elements have bytes.
+fn numbered_count(lens: &[usize; 7]) -> usize
+    ensures { λ r. ⌜ (r ≤ 7) × (r ≡ countBy (now (lens .entry))) ⌝ }
 {
-    if bytes.len() == 0 { 0 } else { 1 }
+    let mut n: usize = 0;
+    let mut k: usize = 0;
+    while k < 7 {
+        if lens[k] != 0 {
+            n += 1;
+        }
+        k += 1;
+    }
+    n
 }
 
-// How many entries the elements with a number of the table have.
-fn numbered_count(
-    item: &[u8],
-    isil: &[u8],
-    set: &[u8],
-    usage: &[u8],
-    media: &[u8],
-    second: &[u8],
-    other: &[u8],
-) -> usize
-    ensures { λ r. ⌜ (r ≤ 7) × (r ≡ countOf (now (item .entry)) + countOf (now (isil .entry)) + countOf (now (set .entry)) + countOf (now (usage .entry))
-        + countOf (now (media .entry)) + countOf (now (second .entry)) + countOf (now (other .entry))) ⌝ }
+// How many bytes they have together.
+fn numbered_size(lens: &[usize; 7]) -> usize
+    requires { ⌜ bytes (now lens) ≡ true ⌝ }
+    ensures { λ r. ⌜ (r ≤ 1785) × (r ≡ sizeBy (now (lens .entry))) ⌝ }
 {
-    entry_count(item)
-        + entry_count(isil)
-        + entry_count(set)
-        + entry_count(usage)
-        + entry_count(media)
-        + entry_count(second)
-        + entry_count(other)
+    let mut n: usize = 0;
+    let mut k: usize = 0;
+    while k < 7 {
+        n += lens[k];
+        k += 1;
+    }
+    n
 }
 
 // Writes to `sheet` from byte 2 on the heads of these elements; `offset` is where their bytes begin in the sheet. Answers the place
 // behind the heads.
-fn numbered_heads(
-    sheet: &mut [u8],
-    offset: usize,
-    item: &[u8],
-    isil: &[u8],
-    set: &[u8],
-    usage: &[u8],
-    media: &[u8],
-    second: &[u8],
-    other: &[u8],
-) -> usize
-    requires { ⌜ Short (now item) (now isil) (now set) (now usage) (now media) (now second) (now other) × (offset ≤ 65535)
-        × (2 + 4 * (countOf (now item) + countOf (now isil) + countOf (now set) + countOf (now usage) + countOf (now media) + countOf (now second) + countOf (now other)) ≤ length (now sheet)) ⌝ }
-    ensures { λ r. ⌜ stored (now (sheet .entry)) 2
-        (heads offset (numbered (now (item .entry)) (now (isil .entry)) (now (set .entry)) (now (usage .entry)) (now (media .entry)) (now (second .entry)) (now (other .entry))))
-        r (now (sheet .exit)) ⌝ }
+fn numbered_heads(sheet: &mut [u8], offset: usize, lens: &[usize; 7]) -> usize
+    requires { ⌜ (offset ≤ 65535) × (bytes (now lens) ≡ true) × (2 + length (headsBy offset numbers (now lens)) ≤ length (now sheet)) ⌝ }
+    ensures { λ r. ⌜ stored (now (sheet .entry)) 2 (headsBy offset numbers (now (lens .entry))) r (now (sheet .exit)) ⌝ }
 {
-    let from3 = offset + item.len();
-    let from4 = from3 + isil.len();
-    let from5 = from4 + set.len();
-    let from19 = from5 + usage.len();
-    let from22 = from19 + media.len();
-    let from23 = from22 + second.len();
-    let at3 = put_head(sheet, 2, offset, 1, item);
-    let at4 = put_head(sheet, at3, from3, 3, isil);
-    let at5 = put_head(sheet, at4, from4, 4, set);
-    let at19 = put_head(sheet, at5, from5, 5, usage);
-    let at22 = put_head(sheet, at19, from19, 19, media);
-    let at23 = put_head(sheet, at22, from22, 22, second);
-    put_head(sheet, at23, from23, 23, other)
+    let mut at: usize = 2;
+    let mut from = offset;
+    let mut k: usize = 0;
+    while k < 7 {
+        at = put_head(sheet, at, from, rows::number_at(k), lens[k]);
+        from += lens[k];
+        k += 1;
+    }
+    at
 }
 
 // Copies the bytes of these elements to `sheet` from `at` on; answers the place behind them.
-fn numbered_bytes(
+fn numbered_bytes<'a>(
     sheet: &mut [u8],
     at: usize,
-    item: &[u8],
-    isil: &[u8],
-    set: &[u8],
-    usage: &[u8],
-    media: &[u8],
-    second: &[u8],
-    other: &[u8],
+    tag: &'a [u8],
+    made: &'a [u8],
+    ats: &[usize; 7],
+    lens: &[usize; 7],
 ) -> usize
-    requires { ⌜ at + (length (now item) + length (now isil) + length (now set) + length (now usage) + length (now media) + length (now second) + length (now other)) ≤ length (now sheet) ⌝ }
-    ensures { λ r. ⌜ stored (now (sheet .entry)) at
-        (bodies (numbered (now (item .entry)) (now (isil .entry)) (now (set .entry)) (now (usage .entry)) (now (media .entry)) (now (second .entry)) (now (other .entry))))
-        r (now (sheet .exit)) ⌝ }
+    requires { ⌜ Row (now tag) (now made) (now ats) (now lens) × (at + sizeBy (now lens) ≤ length (now sheet)) ⌝ }
+    ensures { λ r. ⌜ stored (now (sheet .entry)) at (joined (slotsAt (now (tag .entry) ++ now (made .entry)) (now (ats .entry)) (now (lens .entry)))) r (now (sheet .exit)) ⌝ }
 {
-    let at3 = put_bytes(sheet, at, item);
-    let at4 = put_bytes(sheet, at3, isil);
-    let at5 = put_bytes(sheet, at4, set);
-    let at19 = put_bytes(sheet, at5, usage);
-    let at22 = put_bytes(sheet, at19, media);
-    let at23 = put_bytes(sheet, at22, second);
-    put_bytes(sheet, at23, other)
+    let mut end = at;
+    let mut k: usize = 0;
+    while k < 7 {
+        if lens[k] != 0 {
+            end = strings::put_bytes(sheet, end, rows::piece(tag, made, ats[k], lens[k]));
+        }
+        k += 1;
+    }
+    end
 }
 
 // 14 and 2 for a sheet that ends at `end`: no offset passes that, and the lent buffer has `room` bytes.
@@ -196,50 +168,36 @@ fn room_stage(end: usize, room: usize) -> Stage
 // The sheet of the elements of a tag, whose chain is whole and has `count` carried blocks of `size` bytes. Answers 14 where an offset
 // would pass 65,535 and 2 where `sheet` is too short, and then stores nothing; else the sheet's length, and just that much is filled.
 // Where `blocks` is as long as the carried blocks it is they, one behind the other, and one copy does; else the chain is walked for them.
-pub fn render(
-    tag: &[u8],
+pub fn render<'a>(
+    tag: &'a [u8],
+    made: &'a [u8],
+    ats: &[usize; 7],
+    lens: &[usize; 7],
     count: usize,
     size: usize,
-    item: &[u8],
-    isil: &[u8],
-    set: &[u8],
-    usage: &[u8],
-    media: &[u8],
-    second: &[u8],
-    other: &[u8],
     blocks: &[u8],
     sheet: &mut [u8],
-) -> ReadAnswer
-    requires { ⌜ (walked (now tag) ≡ got (blocksIn (now tag))) × (length (now tag) ≤ 2048)
-        × (count ≡ length (carriedOn (now tag))) × (size ≡ length (joined (carriedOn (now tag))))
-        × Short (now item) (now isil) (now set) (now usage) (now media) (now second) (now other)
-        × (length (now blocks) ≡ size → now blocks ≡ joined (carriedOn (now tag))) ⌝ }
+) -> NumberAnswer
+    requires { ⌜ Renderable (now tag) (now made) (now ats) (now lens) count size (now blocks) ⌝ }
     ensures { λ r. ⌜ Rendered
-        (entries (elements (now (item .entry)) (now (isil .entry)) (now (set .entry)) (now (usage .entry)) (now (media .entry)) (now (second .entry)) (now (other .entry)) (carriedOn (now (tag .entry)))))
+        (entries (record { slots = slotsAt (now (tag .entry) ++ now (made .entry)) (now (ats .entry)) (now (lens .entry)); carried = carriedOn (now (tag .entry)) }))
         (now (sheet .entry)) r (now (sheet .exit)) ⌝ }
 {
-    let n = numbered_count(item, isil, set, usage, media, second, other) + count;
+    let n = numbered_count(lens) + count;
     let offset = 2 + 4 * n;
-    let bytes = item.len()
-        + isil.len()
-        + set.len()
-        + usage.len()
-        + media.len()
-        + second.len()
-        + other.len();
-    let carried = offset + bytes;
+    let carried = offset + numbered_size(lens);
     let end = carried + size;
     let fit = room_stage(end, sheet.len());
     let Stage::Passed = fit else {
-        return ReadAnswer::Refused(format::stage_number(fit));
+        return NumberAnswer::Refused(format::stage_number(fit));
     };
     sheet[0] = (n % 256) as u8;
     sheet[1] = (n / 256 % 256) as u8;
-    let next = numbered_heads(sheet, offset, item, isil, set, usage, media, second, other);
+    let next = numbered_heads(sheet, offset, lens);
     let first = carried_heads(tag, sheet, next, carried);
-    let behind = numbered_bytes(sheet, first, item, isil, set, usage, media, second, other);
+    let behind = numbered_bytes(sheet, first, tag, made, ats, lens);
     if blocks.len() == size {
-        return ReadAnswer::Done(put_bytes(sheet, behind, blocks));
+        return NumberAnswer::Done(strings::put_bytes(sheet, behind, blocks));
     }
-    ReadAnswer::Done(gather(tag, sheet, behind))
+    NumberAnswer::Done(gather(tag, sheet, behind))
 }

@@ -1,32 +1,12 @@
 // Judging a sheet, and telling where each element stands in it: document 01, "The sheet". The sheet is lent and stays the same.
 // What the answer means is said in `specs/Scanning.antt`, over the definitions of `format`.
-use format::Part;
+use format::NumberAnswer;
 ghost use mathlib.Core.Path.{_≡_};
 ghost use Prim.Native.Nat.{_+_, _≤_};
 ghost use lib.ListN.{length, drop};
-ghost use Rattle.format.specs.Bytes.{all};
-ghost use Rattle.format.specs.Sheet.{bodyAt, countIn, entriesIn, rightSheet, formed};
-ghost use Rattle.sheet.specs.Heads.{RightOf, HeadOf, least, Seeking, Sought, placed};
-ghost use Rattle.sheet.specs.Scanning.{placesIn, scanning, scanGiven};
-
-// Where the bytes of each element stand in a sheet, {0, 0} where there is none; those of the carried blocks run from `carried` to the
-// sheet's end.
-pub struct Places {
-    pub item: Part,
-    pub isil: Part,
-    pub set: Part,
-    pub usage: Part,
-    pub media: Part,
-    pub second: Part,
-    pub other: Part,
-    pub carried: usize,
-}
-
-// The places, or the number of the refusal.
-pub enum Scanned {
-    Good(Places),
-    Refused(u32),
-}
+ghost use Rattle.format.specs.Sheet.{bodyAt, countIn, entriesIn, rightSheet, goodValues};
+ghost use Rattle.sheet.specs.Heads.{RightOf, HeadOf, least};
+ghost use Rattle.sheet.specs.Scanning.{atsIn, lensIn, carriedAt, Scanned};
 
 // How many entries the sheet's first two bytes name.
 fn count(sheet: &[u8]) -> usize
@@ -92,120 +72,65 @@ fn right(sheet: &[u8]) -> bool
     at == sheet.len()
 }
 
-// Has every entry of a right sheet a known number and a value of its form?
-fn all_formed(sheet: &[u8], count: usize) -> bool
+// Has every entry of a right sheet a known number and a value of its form, and are 4 and 5 there?
+fn good_values(sheet: &[u8], count: usize) -> bool
     requires { ⌜ RightOf (now sheet) count ⌝ }
-    ensures { λ r. ⌜ r ≡ all formed (entriesIn (now (sheet .entry))) ⌝ }
+    ensures { λ r. ⌜ r ≡ goodValues (entriesIn (now (sheet .entry))) ⌝ }
 {
     let mut at = 2 + 4 * count;
     let mut i: usize = 0;
+    let mut set = false;
+    let mut usage = false;
     while i < count {
         let head = head_at(sheet, i);
         let end = at + head.len;
         if !elements::formed(head.number, &sheet[at..end]) {
             return false;
         }
+        set = set | (head.number == 4);
+        usage = usage | (head.number == 5);
         at = end;
         i += 1;
     }
-    true
+    set && usage
 }
 
-// Where a search stopped: at entry `index`, whose bytes begin at `at`; `len` of them are what was sought.
-struct Found {
-    index: usize,
-    at: usize,
-    len: usize,
-}
-
-// Where the bytes of the entry with a number stand in a right sheet. Where there is none, it has no bytes, before those of the first
-// larger number. It goes on from where the search for a smaller number stopped, so that all searches together pass each entry once.
-fn seek(sheet: &[u8], count: usize, from: Found, number: u8) -> Found
-    requires { ⌜ RightOf (now sheet) count × Seeking number (now sheet) (from .index) (from .at) ⌝ }
-    ensures { λ r. ⌜ Sought (now (sheet .entry)) number r ⌝ }
-{
-    let mut index = from.index;
-    let mut at = from.at;
-    while index < count {
-        let head = head_at(sheet, index);
-        if number < head.number {
-            return Found { index, at, len: 0 };
-        }
-        if number == head.number {
-            return Found {
-                index,
-                at,
-                len: head.len,
-            };
-        }
-        at += head.len;
-        index += 1;
-    }
-    Found { index, at, len: 0 }
-}
-
-// The place of what was found, {0, 0} where that has no bytes.
-fn place_of(found: Found) -> Part
-    ensures { λ r. ⌜ r ≡ placed found ⌝ }
-{
-    if found.len == 0 {
-        return Part { at: 0, len: 0 };
-    }
-    Part {
-        at: found.at,
-        len: found.len,
-    }
-}
-
-// Where each element stands in a right sheet: the numbers are sought as they rise.
-fn places_in(sheet: &[u8], count: usize) -> Places
+// Where each element stands in a right sheet: its numbers rise as those of the table do, so the next entry has the next number, or there is
+// no entry with that. Answers where the carried blocks begin.
+fn fill_row(sheet: &[u8], count: usize, ats: &mut [usize; 7], lens: &mut [usize; 7]) -> usize
     requires { ⌜ RightOf (now sheet) count ⌝ }
-    ensures { λ r. ⌜ r ≡ placesIn (now (sheet .entry)) ⌝ }
+    ensures { λ r. ⌜ (r ≡ carriedAt (now (sheet .entry))) × (now (ats .exit) ≡ atsIn (now (sheet .entry))) × (now (lens .exit) ≡ lensIn (now (sheet .entry))) ⌝ }
 {
-    let at = 2 + 4 * count;
-    let start = Found {
-        index: 0,
-        at,
-        len: 0,
-    };
-    let item = seek(sheet, count, start, 1);
-    let isil = seek(sheet, count, item, 3);
-    let set = seek(sheet, count, isil, 4);
-    let usage = seek(sheet, count, set, 5);
-    let media = seek(sheet, count, usage, 19);
-    let second = seek(sheet, count, media, 22);
-    let other = seek(sheet, count, second, 23);
-    let blocks = seek(sheet, count, other, 255);
-    Places {
-        item: place_of(item),
-        isil: place_of(isil),
-        set: place_of(set),
-        usage: place_of(usage),
-        media: place_of(media),
-        second: place_of(second),
-        other: place_of(other),
-        carried: blocks.at,
+    let mut at = 2 + 4 * count;
+    let mut i: usize = 0;
+    let mut k: usize = 0;
+    while k < 7 {
+        ats[k] = at;
+        lens[k] = 0;
+        if i < count {
+            let head = head_at(sheet, i);
+            if head.number == rows::number_at(k) {
+                lens[k] = head.len;
+                at += head.len;
+                i += 1;
+            }
+        }
+        k += 1;
     }
+    at
 }
 
 // Judges a sheet: 8 where header, order, offsets or end are wrong; 9 where a number is unknown, a value bad, or 4 or 5 missing; else
-// where each element stands.
-pub fn scan(sheet: &[u8]) -> Scanned
-    ensures { λ r. ⌜ scanGiven r ≡ scanning (now (sheet .entry)) ⌝ }
+// where each element stands, and the place where the carried blocks begin.
+pub fn scan(sheet: &[u8], ats: &mut [usize; 7], lens: &mut [usize; 7]) -> NumberAnswer
+    ensures { λ r. ⌜ Scanned (now (sheet .entry)) (now (ats .entry)) (now (lens .entry)) r (now (ats .exit)) (now (lens .exit)) ⌝ }
 {
     if !right(sheet) {
-        return Scanned::Refused(8);
+        return NumberAnswer::Refused(8);
     }
     let count = count(sheet);
-    if !all_formed(sheet, count) {
-        return Scanned::Refused(9);
+    if !good_values(sheet, count) {
+        return NumberAnswer::Refused(9);
     }
-    let places = places_in(sheet, count);
-    if places.set.len == 0 {
-        return Scanned::Refused(9);
-    }
-    if places.usage.len == 0 {
-        return Scanned::Refused(9);
-    }
-    Scanned::Good(places)
+    NumberAnswer::Done(fill_row(sheet, count, ats, lens))
 }

@@ -1,7 +1,9 @@
 // Small functions on strings of bytes that several crates call.
 ghost use mathlib.Core.Path.{_≡_};
-ghost use Prim.Native.Nat.{_≤_};
+ghost use Prim.Native.Nat.{_+_, _≤_};
+ghost use lib.ListN.{length, replicate};
 ghost use Rattle.format.specs.Bytes.{word, xorAll};
+ghost use Rattle.format.specs.Pieces.{stored};
 
 // The number in two bytes, low byte first.
 pub fn word(low: u8, high: u8) -> usize
@@ -21,4 +23,25 @@ pub fn xor_of(bytes: &[u8]) -> u8
         i += 1;
     }
     x
+}
+
+// Copies `piece` to `out` from `at` on; answers the place behind it.
+pub fn put_bytes(out: &mut [u8], at: usize, piece: &[u8]) -> usize
+    requires { ⌜ at + length (now piece) ≤ length (now out) ⌝ }
+    ensures { λ r. ⌜ stored (now (out .entry)) at (now (piece .entry)) r (now (out .exit)) ⌝ }
+{
+    let end = at + piece.len();
+    bytes::copy(piece, &mut out[at..end]);
+    end
+}
+
+// Makes every byte 00.
+pub fn clear(out: &mut [u8])
+    ensures { λ _. ⌜ now (out .exit) ≡ replicate (length (now (out .entry))) 0 ⌝ }
+{
+    let mut i = 0;
+    while i < out.len() {
+        out[i] = 0;
+        i += 1;
+    }
 }

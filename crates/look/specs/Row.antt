@@ -1,0 +1,117 @@
+-- Where a tag that passes every step has its elements: document 01, "The first 34 bytes" and "The chain of blocks". Which bytes are an
+-- element is said by `format`'s rules; here stand the places. What a sheet has in another form than the tag is made, and stands behind
+-- the tag: set information, usage, and an ISIL with its hyphen.
+use mathlib.Core.Path.{_≡_}
+use Prim.Native.Nat.{ℕ, _+_, _*_, _≤_}
+use mathlib.Core.Bool.{true, false, not, _&&_}
+use mathlib.Core.List.{List, [], _∷_, _++_, map}
+use lib.ListN.{length, getD, take, drop}
+use lib.Dec.{eqb}
+use Rattle.format.specs.declared.Part.{Part}
+use Rattle.format.specs.Bytes.{if_then_else_, part}
+use Rattle.format.specs.Fields.{hyphen, alternate}
+use Rattle.format.specs.Reading.{mainUsage}
+use Rattle.fields.specs.declared.ItemParts.{ItemParts}
+use Rattle.fields.specs.declared.OwnerParts.{OwnerParts}
+use Rattle.fields.specs.declared.LibraryParts.{LibraryParts}
+
+-- `len` bytes from `at` on; and none
+abbrev pub from : ℕ → ℕ → Part
+from at len = record { at = at; len = len }
+
+abbrev pub nowhere : Part
+nowhere = from 0 0
+
+-- ---- items: block 1, which begins at `block`, has its item field from its byte 5 on; that is element 1 under the marker, else 22
+
+unfoldable pub itemBy : ℕ → ItemParts → LibraryParts → Part
+itemBy block i l = if i .marked then from (block + 5) (l .item) else from 3 (i .len)
+
+unfoldable pub secondBy : ℕ → ItemParts → LibraryParts → Part
+secondBy block i l = if i .marked then nowhere else from (block + 5) (l .item)
+
+-- ---- owners: in block 1, from `at` on, if that has one, where its first byte tells its kind; else from byte 23 on, an ISIL with its prefix
+-- at byte 21
+
+-- an ISIL of the owner field as a sheet has it
+unfoldable pub isilMade : List ℕ → ℕ → ℕ → List ℕ
+isilMade t prefix unit = part 21 prefix t ++ (hyphen ∷ part 23 unit t)
+
+-- it is made where the owner is one
+unfoldable pub isilBytes : List ℕ → OwnerParts → LibraryParts → List ℕ
+isilBytes t o l = if eqb (l .owner) 0 && not (eqb (o .prefix) 0) then isilMade t (o .prefix) (o .isil) else []
+
+-- it stands behind set information and usage
+unfoldable pub isilBy : List ℕ → ℕ → OwnerParts → LibraryParts → Part
+isilBy t at o l =
+    if eqb (l .owner) 0
+    then (if eqb (o .prefix) 0 then nowhere else from (length t + 5) (o .prefix + 1 + o .isil))
+    else (if alternate (getD t at 0 ∷ []) then nowhere else from at (l .owner))
+
+unfoldable pub otherBy : List ℕ → ℕ → OwnerParts → LibraryParts → Part
+otherBy t at o l =
+    if eqb (l .owner) 0 then from 23 (o .other) else
+    if alternate (getD t at 0 ∷ []) then from at (l .owner) else nowhere
+
+-- ---- media and usage
+
+-- a media byte 00 is none
+abbrev pub mediaLength : ℕ → ℕ
+mediaLength media = if eqb media 0 then 0 else 1
+
+-- block 1's usage byte, or else the main qualifier of byte 0
+unfoldable pub usageBy : List ℕ → LibraryParts → ℕ
+usageBy t l = if eqb (l .usage) 0 then mainUsage t * 16 else l .usage
+
+-- ---- all of them, in the order of the table
+
+unfoldable pub rowBy : List ℕ → ℕ → ItemParts → OwnerParts → LibraryParts → List Part
+rowBy t block i o l =
+    let at : ℕ = block + 6 + l .item in
+    itemBy block i l ∷
+    isilBy t at o l ∷
+    from (length t) 4 ∷
+    from (length t + 4) 1 ∷
+    from (block + 4) (mediaLength (l .media)) ∷
+    secondBy block i l ∷
+    otherBy t at o l ∷
+    []
+
+abbrev pub atsBy : List ℕ → ℕ → ItemParts → OwnerParts → LibraryParts → List ℕ
+atsBy t block i o l = map (λ (p : Part). p .at) (rowBy t block i o l)
+
+abbrev pub lensBy : List ℕ → ℕ → ItemParts → OwnerParts → LibraryParts → List ℕ
+lensBy t block i o l = map (λ (p : Part). p .len) (rowBy t block i o l)
+
+-- what is made
+unfoldable pub madeBy : List ℕ → OwnerParts → LibraryParts → List ℕ
+madeBy t o l = getD t 1 0 ∷ 0 ∷ getD t 2 0 ∷ 0 ∷ usageBy t l ∷ isilBytes t o l
+
+-- ---- the carried blocks
+
+-- in one piece, by the place and length of block 1, their size and the chain's end: nowhere, unless block 1 is the first block or there is
+-- none, and the chain has no filler
+unfoldable pub pieceBy : ℕ → ℕ → ℕ → ℕ → Part
+pieceBy library length size end =
+    if not (eqb length 0) && not (eqb library 34) then nowhere else
+    if not (eqb (34 + length + size) end) then nowhere else
+    from (34 + length) size
+
+-- ---- what the functions that lay down a row rely on
+
+-- s in the stead of as many bytes of d from `at` on
+abbrev pub stead : ℕ → List ℕ → List ℕ → List ℕ
+stead at s d = take at d ++ (s ++ drop (at + length s) d)
+
+-- the two sides of an ISIL of the owner field lie inside the tag, and are no longer than they can be
+pub record IsilLies (t : List ℕ) (prefix unit : ℕ) : Type 0 where
+  pub some : 1 ≤ prefix
+  pub short : prefix ≤ 2
+  pub fits : unit ≤ 11
+  pub inside : 23 + unit ≤ length t
+
+-- the owner lies inside the tag
+pub record OwnerLies (t : List ℕ) (at : ℕ) (o : OwnerParts) (l : LibraryParts) : Type 0 where
+  pub size : length t ≤ 2048
+  pub field : (eqb (o .prefix) 0 ≡ false) → IsilLies t (o .prefix) (o .isil)
+  pub block : (eqb (l .owner) 0 ≡ false) → at + l .owner ≤ length t

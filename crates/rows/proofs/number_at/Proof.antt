@@ -1,0 +1,21 @@
+-- `rows::number_at` meets its contract: the table is the list of numbers.
+use mathlib.Core.Path.{refl, sym}
+use borrow.Author.Needs.{needs}
+use Rattle.format.specs.Elements.{numbers}
+use Rattle.rows.proofs.Table.{none-behind}
+use Rattle.rows.proofs.number_at.Statement.{statement}
+use Rattle.rows.proofs.number_at.Tie as tie
+
+array-read-result : tie.Need-array-read-result
+array-read-result c = search needs
+
+returns : tie.Need-returns
+unfolding numbers
+returns c = refl
+
+returns-2 : tie.Need-returns-2
+unfolding numbers
+returns-2 c = sym (none-behind numbers _ (c .if1 .left))
+
+pub number-at-spec : {M : Type 1} → statement M
+number-at-spec = tie.close (tie.spec array-read-result returns returns-2)

@@ -1,0 +1,48 @@
+-- `rows::place_of` meets its contract: the number does not stand before place k.
+use mathlib.Core.Path.{_≡_, sym, _∙_}
+use Prim.Native.Nat.{_-_}
+use borrow.Author.Needs.{needs}
+use Rattle.format.specs.Elements.{numbers}
+use Rattle.rows.proofs.Table.{Sought, sought-start, sought-found, sought-on, sought-over}
+use Rattle.rows.proofs.place_of.Statement.{statement}
+use Rattle.rows.proofs.place_of.Tie as tie
+
+abbrev Inv-loop : tie.InvT-loop
+Inv-loop number k₀ k = Sought number k
+
+abbrev μ-loop : tie.MeasureT-loop
+μ-loop number k₀ k = 7 - k
+
+loop-holds : tie.Need-loop-holds Inv-loop μ-loop
+loop-holds c = sought-start (c .args .number)
+
+number-at-requires : tie.Need-number-at-requires Inv-loop μ-loop
+number-at-requires c κs = search needs
+
+cast-if1 : tie.Need-cast-if1 Inv-loop μ-loop
+cast-if1 c = search needs
+
+returns : tie.Need-returns Inv-loop μ-loop
+unfolding numbers
+returns c =
+    let l = c .before .before .before in
+    sought-found (l .before .args .number) (l .loop .k) (l .loop .inv) (c .before .before .loop-test .taken) (sym (c .before .number-at .ensures) ∙ c .if1 .taken)
+
+add-k : tie.Need-add-k Inv-loop μ-loop
+add-k c = search needs
+
+loop-less : tie.Need-loop-less Inv-loop μ-loop
+loop-less c = search needs
+
+loop-again : tie.Need-loop-again Inv-loop μ-loop
+unfolding numbers
+loop-again c =
+    let l = c .before .before .before in
+    sought-on (l .before .args .number) (l .loop .k) (l .loop .inv) (c .before .before .loop-test .taken) (λ e. c .if1 .left (c .before .number-at .ensures ∙ e))
+
+returns-2 : tie.Need-returns-2 Inv-loop μ-loop
+unfolding numbers
+returns-2 c = sought-over (c .before .before .args .number) (c .before .loop .k) (c .before .loop .inv) (c .loop-test .left)
+
+pub place-of-spec : {M : Type 1} → statement M
+place-of-spec = tie.close (tie.spec Inv-loop μ-loop loop-holds number-at-requires cast-if1 returns add-k loop-less loop-again returns-2)

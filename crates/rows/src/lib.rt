@@ -1,0 +1,46 @@
+// The table of elements, and a row of them: two arrays tell where each element stands and how long it is, one place for each number of the
+// table. What a row holds is said in `specs/Rows.antt`.
+ghost use mathlib.Core.Path.{_≡_};
+ghost use mathlib.Core.List.{_++_};
+ghost use lib.ListN.{getD};
+ghost use Rattle.format.specs.Bytes.{part};
+ghost use Rattle.format.specs.Elements.{numbers, place};
+ghost use Rattle.rows.specs.Rows.{Stands};
+
+const NUMBERS: [u8; 7] = [1, 3, 4, 5, 19, 22, 23];
+
+// The number at a place of the table; 0 where there is none.
+pub fn number_at(k: usize) -> u8
+    ensures { λ r. ⌜ r ≡ getD numbers k 0 ⌝ }
+{
+    if k < 7 { NUMBERS[k] } else { 0 }
+}
+
+// The place of a number in the table; 7 where it has none.
+pub fn place_of(number: u32) -> usize
+    ensures { λ r. ⌜ r ≡ place number ⌝ }
+{
+    let mut k: usize = 0;
+    while k < 7 {
+        if number_at(k) as u32 == number {
+            return k;
+        }
+        k += 1;
+    }
+    k
+}
+
+// The bytes of an element: they stand in the source or, from its end on, in what was made.
+pub fn piece<'a>(src: &'a [u8], made: &'a [u8], at: usize, len: usize) -> &'a [u8]
+    requires { ⌜ Stands (now src) (now made) at len ⌝ }
+    ensures { λ r. ⌜ now r ≡ part at len (now (src .entry) ++ now (made .entry)) ⌝ }
+{
+    let n = src.len();
+    if at < n {
+        let end = at + len;
+        return &src[at..end];
+    }
+    let from = at - n;
+    let stop = from + len;
+    &made[from..stop]
+}
