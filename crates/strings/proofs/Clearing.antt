@@ -4,10 +4,39 @@ use Prim.Native.Nat.{ℕ, suc, _+_, _≤_, _<_}
 use native.Mathlib.Numerals.{add-one}
 use native.Mathlib.Omega.{arith}
 use mathlib.Core.List.{List, [], _∷_, _++_, append-assoc, append-nil}
-use lib.ListN.{length, take, drop, set, replicate, length-set, drop-of-length-le, take-append-drop, length-replicate}
-use lib.Seq.{set-split, take-at, drop-at, drop-set-add, length-take-le}
+use lib.ListN.{length, take, drop, set, replicate, length-append, length-drop, length-replicate, drop-of-length-le, replicate-append-replicate}
+use lib.Seq.{set-split, take-at, drop-append-add, drop-drop}
 
 -- the first i bytes of `out` are 00, the others are those of `before`
 pub record Cleared (before out : List ℕ) (i : ℕ) : Type 0 where
   pub inside : i ≤ length before
   pub is : out ≡ replicate i 0 ++ drop i before
+
+pub cleared-start : (before : List ℕ) → Cleared before before 0
+cleared-start before = record { inside = omega arith; is = refl }
+
+module _ (before out : List ℕ) (i : ℕ) (c : Cleared before out i) where
+  abbrev zeros : List ℕ
+  zeros = replicate i 0
+
+  pub cleared-length : length out ≡ length before
+  cleared-length = ap length (c .is) ∙ omega (arith, c .inside, length-append zeros (drop i before), length-replicate {A = ℕ} i 0, length-drop i before)
+
+  pub cleared-on : i < length before → Cleared before (set out i 0) (i + 1)
+  cleared-on h =
+      let l : length zeros ≡ i = length-replicate i 0 in
+      let front : take i out ≡ zeros = ap (take i) (c .is) ∙ take-at zeros (drop i before) i l in
+      let n : suc i ≡ length zeros + 1 = omega (arith, l) in
+      let back : drop (suc i) out ≡ drop (i + 1) before =
+          ap₂ drop n (c .is) ∙ drop-append-add zeros (drop i before) 1 ∙ drop-drop 1 i before in
+      record {
+        inside = omega (arith, h);
+        is = set-split out i 0 (omega (arith, h, cleared-length)) ∙ ap₂ (λ (x y : List ℕ). x ++ (0 ∷ y)) front back
+            ∙ sym (append-assoc zeros (0 ∷ []) (drop (i + 1) before))
+            ∙ ap (λ (x : List ℕ). x ++ drop (i + 1) before) (replicate-append-replicate i 1 0);
+      }
+
+  pub cleared-all : length before ≤ i → out ≡ replicate (length before) 0
+  cleared-all h =
+      let e : i ≡ length before = omega (arith, h, c .inside) in
+      c .is ∙ ap (λ (x : List ℕ). zeros ++ x) (drop-of-length-le before {i = i} h) ∙ append-nil zeros ∙ ap (λ (n : ℕ). replicate n 0) e
