@@ -91,6 +91,12 @@ pub none-inv : {A : Type 0} (a b : A) → inOrder [] a ≡ got b → a ≡ b
 unfolding inOrder
 none-inv a b e = got-inj e
 
+-- the last step is the answer
+pub last-step : (s : Step) → inOrder (s ∷ []) tt ≡ s
+unfolding inOrder
+last-step (got tt) = refl
+last-step (refused x) = refl
+
 -- the test behind a first step, and the steps behind it
 pub next-ok : {A : Type 0} (n : ℕ) (b : Bool) (ss : List Step) (a : A) → b ≡ true → inOrder (need n b ∷ ss) a ≡ inOrder ss a
 next-ok n b ss a e = first-ok (need n b) ss a (need-ok n b e)

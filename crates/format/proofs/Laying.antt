@@ -2,19 +2,20 @@
 use mathlib.Core.Path.{_≡_, ap, _∙_}
 use Prim.Native.Nat.{ℕ, _/_, _≤_}
 use mathlib.Core.Bool.{Bool, true, false, not}
-use mathlib.Core.List.{List}
+use mathlib.Core.List.{List, [], _∷_}
+use lib.Dec.{eqb}
 use lib.ListN.{length}
 use borrow.Author.Tests.{eqb-true, eq-eqb}
-use Rattle.format.specs.Answers.{got, inOrder}
-use Rattle.format.specs.Bytes.{same}
+use Rattle.format.specs.Answers.{Refusal, got, refused, Step, need, inOrder}
+use Rattle.format.specs.Bytes.{same, joined}
 use Rattle.format.specs.Pages.{goodSize, lockMap, changed, lockedChanged, openPages, Kept}
 use Rattle.format.specs.Elements.{Content, clash, sound}
-use Rattle.format.specs.Layout.{image, fits}
+use Rattle.format.specs.Layout.{hasLayout, image, fits}
 use Rattle.format.specs.Reading.{contentIn, Readable}
 use Rattle.format.specs.Calls.{layingSteps, ownLayout}
 use Rattle.format.specs.History.{Own}
 use Rattle.format.proofs.Tests.{and-l, and-r, and-i, not-t, same-refl, same-eq}
-use Rattle.format.proofs.Answers.{next-ok, next-inv, none-ok, none-inv}
+use Rattle.format.proofs.Answers.{first-ok, first-no, next-ok, next-inv, none-ok, none-inv, refused-on, passed-on}
 use Rattle.format.proofs.Layouts.{image-length, read-back}
 use Rattle.format.proofs.Paging.{locked-kept, changed-open}
 
@@ -51,6 +52,36 @@ module _ (p : ℕ) (locks t : List ℕ) (c : Content) (l : Laid p locks t c) whe
   pub laid-open : lockMap p locks (length t) ≡ true → changed p t (image (length t) c) ≤ openPages locks
   unfolding lockMap
   laid-open m = changed-open p locks t (image (length t) c) (eqb-true (length locks) (length t / p) (and-l _ _ m)) (l .unlocked)
+
+-- ---- the steps as the code takes them: 10 and 11 by drafting, 12 by comparing with the locked pages
+
+abbrev pub draftSteps : ℕ → List (List ℕ) → List ℕ → List Step
+draftSteps n ss blocks = need 10 (not (clash ss)) ∷ need 11 (hasLayout n ss blocks) ∷ []
+
+module _ {A : Type 0} (p : ℕ) (locks t : List ℕ) (c : Content) (a : A) where
+  abbrev drafts : List Step
+  drafts = draftSteps (length t) (c .slots) (joined (c .carried))
+
+  abbrev unlocks : Step
+  unlocks = need 12 (eqb (lockedChanged p locks t (image (length t) c)) 0)
+
+  pub draft-refused : (x : Refusal) → inOrder {A = Unit {0}} drafts tt ≡ refused x → inOrder (layingSteps p locks t c) a ≡ refused x
+  unfolding layingSteps
+  draft-refused x e = refused-on drafts (unlocks ∷ []) tt a x e
+
+  module _ (d : inOrder {A = Unit {0}} drafts tt ≡ got tt) where
+    pub drafted-fits : fits (length t) c ≡ true
+    drafted-fits = next-inv 11 _ _ tt tt (next-inv 10 _ _ tt tt d .1) .0
+
+    drafted-on : inOrder (layingSteps p locks t c) a ≡ inOrder (unlocks ∷ []) a
+    unfolding layingSteps
+    drafted-on = passed-on drafts (unlocks ∷ []) tt tt a d
+
+    pub lock-refused : (x : Refusal) → unlocks ≡ refused x → inOrder (layingSteps p locks t c) a ≡ refused x
+    lock-refused x e = drafted-on ∙ first-no unlocks [] a x e
+
+    pub lock-passed : unlocks ≡ got tt → inOrder (layingSteps p locks t c) a ≡ got a
+    lock-passed e = drafted-on ∙ first-ok unlocks [] a e ∙ none-ok a
 
 -- ---- a tag in the writer's own layout
 

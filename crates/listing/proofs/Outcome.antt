@@ -15,9 +15,9 @@ use Rattle.format.specs.Pages.{pageSize}
 use Rattle.format.specs.Sheet.{Entry, sheetOf, fitting, entriesIn, entries}
 use Rattle.format.specs.Reading.{contentIn}
 use Rattle.format.specs.Calls.{sheetIn, readSteps, reading}
-use Rattle.format.specs.Numbers.{readGiven, readNumbers, oneOf, Reads}
-use Rattle.format.specs.declared.ReadAnswer.{ReadAnswer}
-use Rattle.format.specs.declared.ReadAnswer.the-variants as read
+use Rattle.format.specs.Numbers.{answerGiven, readNumbers, oneOf, Reads}
+use Rattle.format.specs.declared.NumberAnswer.{NumberAnswer}
+use Rattle.format.specs.declared.NumberAnswer.the-variants as number
 use Rattle.format.proofs.Tests.{never, and-l, and-r, or-inv}
 use Rattle.format.proofs.Answers.{next-inv, works, worked, refuses, refused-first, afterwards-got}
 use Rattle.format.proofs.Readable.{on-readable}
@@ -39,11 +39,11 @@ number-listed t k f = ap (listed t) (refuses (plain k) (readSteps pageSize sheet
 
 -- ---- the answer of reading into a buffer z as long as sheetRoom
 
-answer-is : (t z s : List ℕ) (a b : ReadAnswer) → length z ≡ sheetRoom → Reads t z a s → a ≡ b
-    → inOrder (readSteps pageSize sheetRoom t) (length (sheetIn t)) ≡ readGiven b
+answer-is : (t z s : List ℕ) (a b : NumberAnswer) → length z ≡ sheetRoom → Reads t z a s → a ≡ b
+    → inOrder (readSteps pageSize sheetRoom t) (length (sheetIn t)) ≡ answerGiven b
 unfolding reading
 answer-is t z s a b hz r e =
-    ap (λ (room : ℕ). inOrder (readSteps pageSize room t) (length (sheetIn t))) (sym hz) ∙ sym (r .answered) ∙ ap readGiven e
+    ap (λ (room : ℕ). inOrder (readSteps pageSize room t) (length (sheetIn t))) (sym hz) ∙ sym (r .answered) ∙ ap answerGiven e
 
 -- what the last two steps say
 steps-passed : (room : ℕ) (t : List ℕ) (a n : ℕ) → inOrder (readSteps pageSize room t) a ≡ got n
@@ -63,17 +63,17 @@ pub record Sheet (t s : List ℕ) (n : ℕ) : Type 0 where
   pub own : sheetOf (entriesIn (take (n - 0) s)) ≡ take (n - 0) s
   pub text : elementsText (entriesIn (take (n - 0) s)) ≡ listing t
 
-pub sheet-listed : (t z s : List ℕ) (a : ReadAnswer) (n : ℕ) → length z ≡ sheetRoom → Reads t z a s → a ≡ read.Done n → Sheet t s n
+pub sheet-listed : (t z s : List ℕ) (a : NumberAnswer) (n : ℕ) → length z ≡ sheetRoom → Reads t z a s → a ≡ number.Done n → Sheet t s n
 unfolding reading
 sheet-listed t z s a n hz r e =
     let es : List Entry = entries (contentIn t) in
-    let answer = answer-is t z s a (read.Done n) hz r e in
+    let answer = answer-is t z s a (number.Done n) hz r e in
     let w = worked (readSteps pageSize sheetRoom t) (length (sheetIn t)) n answer in
     let p = steps-passed sheetRoom t (length (sheetIn t)) n answer in
     let all : n - 0 ≡ length (sheetIn t) = omega (arith, w .1) in
     let front : take (n - 0) s ≡ sheetIn t =
     ap (λ (m : ℕ). take m s) all
-    ∙ ap (take (length (sheetIn t))) (r .left ∙ afterwards-got _ n _ z (sym (r .answered) ∙ ap readGiven e))
+    ∙ ap (take (length (sheetIn t))) (r .left ∙ afterwards-got _ n _ z (sym (r .answered) ∙ ap answerGiven e))
     ∙ take-append-seam (sheetIn t) (drop (length (sheetIn t)) z) in
     let named : entriesIn (take (n - 0) s) ≡ es = ap entriesIn front ∙ entries-in es (fit-count es (p .0)) in
     record {
@@ -109,9 +109,9 @@ pub record Refusal (t : List ℕ) (k : ℕ) : Type 0 where
   pub number : k ≤ 14
   pub text : counted refusedWord k ≡ listing t
 
-pub refusal-listed : (t z s : List ℕ) (a : ReadAnswer) (k : ℕ) → length z ≡ sheetRoom → Reads t z a s → a ≡ read.Refused k → Refusal t k
+pub refusal-listed : (t z s : List ℕ) (a : NumberAnswer) (k : ℕ) → length z ≡ sheetRoom → Reads t z a s → a ≡ number.Refused k → Refusal t k
 refusal-listed t z s a k hz r e =
-    let answer = answer-is t z s a (read.Refused k) hz r e in
+    let answer = answer-is t z s a (number.Refused k) hz r e in
     let n : ℕ = length (sheetIn t) in
     record {
       number = read-number sheetRoom t n k answer;

@@ -1,6 +1,6 @@
 // What `taglist` prints of a tag, laid down in a lent buffer. The text is defined in `specs/Listing.antt`.
-use format::ReadAnswer;
-use tag::read;
+use format::NumberAnswer;
+use reading::read;
 ghost use mathlib.Core.Path.{_≡_};
 ghost use mathlib.Core.List.{[], _∷_};
 ghost use Prim.Native.Nat.{_+_, _*_, _≤_, _<_};
@@ -132,7 +132,7 @@ pub fn list(tag: &[u8], out: &mut [u8; 20480]) -> usize
     let mut sheet = [0u8; 8192];
     let answer = read(tag, &mut sheet);
     match answer {
-        ReadAnswer::Done(n) => put_elements(out, &sheet[0..n]),
-        ReadAnswer::Refused(k) => put_counted(out, 0, b"refused ", k as usize),
+        NumberAnswer::Done(n) => put_elements(out, &sheet[0..n]),
+        NumberAnswer::Refused(k) => put_counted(out, 0, b"refused ", k as usize),
     }
 }

@@ -7,7 +7,12 @@ use native.Mathlib.Omega.{arith}
 use mathlib.Core.List.{List, [], _∷_, _++_, map, append-assoc}
 use lib.ListN.{length, getD, take, drop, set, length-append, length-drop}
 use lib.Seq.{length-take-le, take-append-le, drop-append-le}
-use Rattle.format.specs.Bytes.{part}
+use mathlib.Core.Bool.{true}
+use borrow.Author.Tests.{le-leb}
+use Rattle.format.specs.Bytes.{all, bytes, part}
+use Rattle.format.specs.Elements.{value, valuesAt}
+use Rattle.format.proofs.Tests.{never, and-l, and-r, and-i}
+use Rattle.format.proofs.Values.{value-short}
 use Rattle.rows.specs.Rows.{slotsAt, Stands, Row, none, next}
 
 -- ---- the lists of a row are equally long
@@ -82,3 +87,16 @@ slots-more src made more (at ∷ ats) (len ∷ lens) (next s r) =
     let l = length-append src made in
     let m : at + len ≤ length (src ++ made) = elim s [ inl e ↦ omega (arith, l, e) | inr e ↦ omega (arith, l, e .1) ] in
     ap₂ (λ (x : List ℕ) (y : List (List ℕ)). x ∷ y) (ap (part at len) (sym (append-assoc src made more)) ∙ part-more (src ++ made) more at len m) (slots-more src made more ats lens r)
+
+-- ---- values
+
+-- a value has at most 255 bytes
+pub values-short : (ns : List ℕ) (ss : List (List ℕ)) → valuesAt ns ss ≡ true → bytes (map length ss) ≡ true
+unfolding valuesAt all
+values-short [] [] e = refl
+values-short [] (s ∷ ss) e = never (cc)
+values-short (n ∷ ns) [] e = never (cc)
+values-short (n ∷ ns) (s ∷ ss) e = and-i (le-leb (length s) 255 (value-short n s (and-l (value n s) (valuesAt ns ss) e))) (values-short ns ss (and-r (value n s) (valuesAt ns ss) e))
+
+pub row-short : (src made ats lens : List ℕ) → Row src made ats lens → (ns : List ℕ) → valuesAt ns (slotsAt (src ++ made) ats lens) ≡ true → bytes lens ≡ true
+row-short src made ats lens r ns e = ap (λ (l : List ℕ). bytes l) (sym (lengths-are src made ats lens r)) ∙ values-short ns (slotsAt (src ++ made) ats lens) e

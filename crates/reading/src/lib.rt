@@ -1,0 +1,21 @@
+// Reading a tag into a sheet.
+use format::NumberAnswer;
+use look::Look;
+ghost use Rattle.format.specs.Numbers.{Reads};
+
+// Reads a tag into the lent sheet buffer: the sheet's length, and just that much filled; or the number of the refusal, and nothing changed.
+pub fn read(tag: &[u8], sheet: &mut [u8]) -> NumberAnswer
+    ensures { λ r. ⌜ Reads (now (tag .entry)) (now (sheet .entry)) r (now (sheet .exit)) ⌝ }
+{
+    let mut ats = [0usize; 7];
+    let mut lens = [0usize; 7];
+    let mut made = [0u8; 19];
+    let looked = look::look_at(tag, &mut ats, &mut lens, &mut made);
+    let Look::Seen(view) = looked else {
+        return NumberAnswer::Refused(look::look_number(looked));
+    };
+    let blocks = view.blocks;
+    let from = blocks.at;
+    let end = from + blocks.len;
+    render::render(tag, &made, &ats, &lens, view.count, view.size, &tag[from..end], sheet)
+}

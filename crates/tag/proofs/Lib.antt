@@ -1,5 +1,0 @@
-pub mod Seen
-pub mod Reader
-pub mod Writer
-pub mod Editor
-pub mod One
