@@ -5,8 +5,9 @@ For each `pub fn` of crates/: it has an `ensures`; it has no `requires`, unless 
 outcomes that fit its contract are equal, answer and buffers, unless docs/EXCEPTIONS.txt lists it as answering more than one. The theorem of
 `crate::some_function` is `some-function-one` in crates/CRATE/proofs/One.antt. It has the contract itself, word for word, as its two premises:
 the contents of a lent slice `x` at entry are written x, those of a `&mut` x at exit x′ in the first outcome and x₂ in the second, and the
-answers r and r₂. It concludes that the answers are equal, and so is each `&mut` at exit. What the contract's names mean is what they mean
-there: both files bring each of them in from the same module.
+answers r and r₂. It concludes that the answers are equal, and so is each `&mut` at exit; of a lent answer, that its contents are and, where the
+contract tells its place, its place. What the contract's names mean is what they mean there: both files bring each of them in from the same
+module. A `pub fn` of a module that is not `pub` is not public.
 
 A line of docs/EXCEPTIONS.txt is `crate::function: requires: grounds` or `crate::function: answers: grounds`; '#' starts a comment. Nothing in it
 excuses a missing `ensures`, nor a `requires` on what a host or a program calls. A listed function that needs no exception is a fault too.
@@ -17,7 +18,7 @@ import sys
 
 ROOT = pathlib.Path(__file__).resolve().parent.parent
 PUBLIC = re.compile(r'\bpub\s+(?:extern\s+"C"\s+)?fn\s+(\w+)')
-CALLED_FROM_OUTSIDE = {'tag', 'capi', 'listing'}
+CALLED_FROM_OUTSIDE = {'reading', 'writing', 'editing', 'capi', 'listing'}
 CLAUSE = re.compile(r'\s*(requires|ensures)\b[^{]*')
 RESULT = re.compile(r'\s*->\s*([^{}]*?)(?=\s*(?:requires\b|ensures\b|\{))')
 USED = re.compile(r'(?m)^(?:ghost )?use ([^;{\n]+)\.\{([^}]*)\}')
@@ -89,7 +90,10 @@ class Function:
         return {name: module for name, module in self.used.items() if name.strip('_') in found}
 
     def conclusion(self):
-        parts = ['now r ≡ now r₂', 'ptr r ≡ ptr r₂'] if self.result.startswith('&') else ['r ≡ r₂'] if self.result else []
+        parts = ['r ≡ r₂'] if self.result else []
+        if self.result.startswith('&'):
+            placed = re.search(r'(?<!now )(?<![\w.·-])r(?![\w′₂-])', self.premise(False))
+            parts = ['now r ≡ now r₂', 'ptr r ≡ ptr r₂'] if placed else ['now r ≡ now r₂']
         parts += [f'{name}′ ≡ {name}₂' for name in self.lent]
         return parts[0] if len(parts) == 1 else ' × '.join(f'({part})' for part in parts)
 
@@ -97,12 +101,17 @@ class Function:
         return self.name.replace('_', '-') + '-one'
 
 
+def code(path):
+    return re.sub(r'//[^\n]*', '', path.read_text(encoding='utf8'))
+
+
 def functions():
-    for path in sorted((ROOT / 'crates').glob('*/src/**/*.rt')):
-        crate = path.relative_to(ROOT / 'crates').parts[0]
-        text = re.sub(r'//[^\n]*', '', path.read_text(encoding='utf8'))
+    for path in sorted((ROOT / 'crates').glob('*/src/*.rt')):
+        if path.stem not in ('lib', 'main') and not re.search(rf'\bpub mod {path.stem};', code(path.parent / 'lib.rt')):
+            continue
+        text = code(path)
         for match in PUBLIC.finditer(text):
-            yield Function(crate, text, match)
+            yield Function(path.parts[-3], text, match)
 
 
 def theorems(crate):
