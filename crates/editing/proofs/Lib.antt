@@ -1,2 +1,4 @@
 pub mod Editor
 pub mod Rows
+pub mod Own
+pub mod One
