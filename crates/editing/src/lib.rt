@@ -1,17 +1,21 @@
 // Editing one element on a tag.
 use format::EditAnswer;
+use format::Part;
 use format::Stage;
 use look::Look;
 use look::View;
 ghost use mathlib.Core.Path.{_≡_};
-ghost use mathlib.Core.Bool.{_&&_};
-ghost use mathlib.Core.List.{[], _∷_};
+ghost use mathlib.Core.Bool.{true, _&&_};
+ghost use mathlib.Core.List.{[], _∷_, _++_};
+ghost use Prim.Native.Nat.{_+_, _≤_};
 ghost use lib.Dec.{leb};
+ghost use lib.ListN.{length, getD, take, drop, set, replicate};
 ghost use Rattle.format.specs.Answers.{need, inOrder};
-ghost use Rattle.format.specs.Elements.{known, value};
+ghost use Rattle.format.specs.Elements.{place, known, value};
 ghost use Rattle.format.specs.Calls.{ownLayout};
 ghost use Rattle.format.specs.Numbers.{stageGiven, Edits};
-ghost use Rattle.editing.specs.Editing.{Fresh, Sized, Sighted};
+ghost use Rattle.look.specs.View.{Sighted};
+ghost use Rattle.editing.specs.Editing.{Fresh, Sized};
 
 // Edits one element of a tag: no bytes means remove. The count of pages changed and the old element's length, just that much of the
 // old-element buffer filled, and the tag is the writer's own layout of the edited elements; or the number of the refusal, and nothing
@@ -43,7 +47,7 @@ fn own_stage<'a>(
     view: View,
     draft: &mut [u8],
 ) -> Stage
-    requires { ⌜ Sighted (now tag) (now made) (now ats) (now lens) view × Fresh (now draft) (now tag) ⌝ }
+    requires { ⌜ Sighted (now tag) (replicate 19 0) (now ats) (now lens) (now made) view × Fresh (now draft) (now tag) ⌝ }
     ensures { λ r. ⌜ stageGiven r ≡ need 13 (ownLayout (now (tag .entry))) ⌝ }
 {
     let blocks = view.blocks;
@@ -74,6 +78,33 @@ fn value_stage(room: usize, number: u32, bytes: &[u8]) -> Stage
     Stage::Passed
 }
 
+// Puts new bytes in the place of an element: they stand in `made` from byte 19 on, behind a tag of n bytes, and the row gets one store.
+// Answers where the old ones stand.
+fn put(
+    number: u32,
+    bytes: &[u8],
+    n: usize,
+    ats: &mut [usize; 7],
+    lens: &mut [usize; 7],
+    made: &mut [u8; 274],
+) -> Part
+    requires { ⌜ (known number ≡ true) × (length (now bytes) ≤ 255) × (n ≤ 2048) ⌝ }
+    ensures { λ r. ⌜ (now (ats .exit) ≡ set (now (ats .entry)) (place number) (n + 19))
+        × (now (lens .exit) ≡ set (now (lens .entry)) (place number) (length (now (bytes .entry))))
+        × (now (made .exit) ≡ take 19 (now (made .entry)) ++ (now (bytes .entry) ++ drop (19 + length (now (bytes .entry))) (now (made .entry))))
+        × (r ≡ record { at = getD (now (ats .entry)) (place number) 0; len = getD (now (lens .entry)) (place number) 0 }) ⌝ }
+{
+    let k = rows::place_of(number);
+    let was = Part {
+        at: ats[k],
+        len: lens[k],
+    };
+    strings::put_bytes(made, 19, bytes);
+    ats[k] = n + 19;
+    lens[k] = bytes.len();
+    was
+}
+
 // Edits by way of a draft of 00, as long as the tag.
 fn edit_on(
     draft: &mut [u8],
@@ -101,20 +132,15 @@ fn edit_on(
     let Stage::Passed = valued else {
         return EditAnswer::Refused(format::stage_number(valued));
     };
-    // the new bytes stand behind what was made of the tag, and the edit is one store into the row
+    // the new bytes stand behind what was made of the tag
     let mut made = [0u8; 274];
     bytes::copy(&seen, &mut made);
-    strings::put_bytes(&mut made, 19, bytes);
-    let k = rows::place_of(number);
-    let was_at = ats[k];
-    let was_len = lens[k];
-    ats[k] = tag.len() + 19;
-    lens[k] = bytes.len();
+    let was = put(number, bytes, tag.len(), &mut ats, &mut lens, &mut made);
     strings::clear(draft);
-    let blocks = view.blocks;
-    let from = blocks.at;
-    let end = from + blocks.len;
-    let drafted = image::draft(tag, &made, &ats, &lens, &tag[from..end], draft);
+    let from = view.blocks.at;
+    let end = from + view.blocks.len;
+    let held = &tag[..];
+    let drafted = image::draft(held, &made, &ats, &lens, &held[from..end], draft);
     let Stage::Passed = drafted else {
         return EditAnswer::Refused(format::stage_number(drafted));
     };
@@ -123,7 +149,7 @@ fn edit_on(
     let Stage::Passed = unlocked else {
         return EditAnswer::Refused(format::stage_number(unlocked));
     };
-    let length = bytes::copy(rows::piece(tag, &made, was_at, was_len), old);
+    let length = bytes::copy(rows::piece(tag, &made, was.at, was.len), old);
     let pages = pages::store(draft, tag);
     EditAnswer::Done { pages, old: length }
 }

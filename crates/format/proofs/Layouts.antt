@@ -77,6 +77,9 @@ size-cases p n e = elim (or-inv (eqb n 32) (eqb (n % p) 0 && between 36 2048 n) 
   | inr h ↦ inr (leb-true 36 n (and-l (leb 36 n) (leb n 2048) (and-r (eqb (n % p) 0) (between 36 2048 n) h)))
 ]
 
+pub size-least : (p n : ℕ) → goodSize p n ≡ true → 32 ≤ n
+size-least p n e = elim (size-cases p n e) [ inl h ↦ omega (arith, h) | inr h ↦ omega (arith, h) ]
+
 pub size-most : (p n : ℕ) → goodSize p n ≡ true → n ≤ 2048
 unfolding goodSize
 size-most p n e = elim (or-inv (eqb n 32) (eqb (n % p) 0 && between 36 2048 n) e) [

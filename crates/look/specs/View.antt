@@ -65,3 +65,11 @@ pub record Looked (t ats lens made : List ℕ) (r : Look) (ats′ lens′ made�
   pub ats-left : ats′ ≡ afterwards (looking t) (atsIn t) ats
   pub lens-left : lens′ ≡ afterwards (looking t) (lensIn t) lens
   pub made-left : made′ ≡ afterwards (looking t) (filled (madeIn t) made) made
+
+-- looking saw the tag t, and this is what it left, where `lent` was lent for what is made
+pub record Sighted (t lent ats lens made : List ℕ) (v : View) : Type 0 where
+  pub seen : judged t ≡ got tt
+  pub view-is : v ≡ viewIn t
+  pub ats-is : ats ≡ atsIn t
+  pub lens-is : lens ≡ lensIn t
+  pub made-is : made ≡ filled (madeIn t) lent

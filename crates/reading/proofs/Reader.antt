@@ -1,16 +1,16 @@
 -- Reading: what looking and rendering give is what reading must give.
 use mathlib.Core.Path.{_≡_, refl, sym, ap, ap₂, _∙_}
-use Prim.Native.Nat.{ℕ}
+use Prim.Native.Nat.{ℕ, _+_, _-_, _≤_}
 use mathlib.Core.Bool.{true}
 use mathlib.Core.List.{List, [], _∷_, _++_}
 use lib.Dec.{leb}
 use native.Mathlib.Omega.{arith}
-use lib.ListN.{length, length-drop}
+use lib.ListN.{length, take, drop, length-drop}
 use lib.Seq.{length-take-le}
 use Rattle.format.specs.Answers.{Answer, got, refused, plain, need, afterwards}
 use Rattle.format.specs.Bytes.{bytes, joined, part, filled}
 use Rattle.format.specs.Pages.{pageSize}
-use Rattle.format.specs.Elements.{Content, numbers}
+use Rattle.format.specs.Elements.{Content, numbers, valuesAt}
 use Rattle.format.specs.Sheet.{sheetOf, entries, fitting}
 use Rattle.format.specs.Reading.{contentIn}
 use Rattle.format.specs.Calls.{sheetIn, readSteps, reading}
@@ -21,7 +21,8 @@ use Rattle.format.proofs.Answers.{next-ok, afterwards-refused}
 use Rattle.format.proofs.Readable.{readable-on}
 use Rattle.rows.specs.Rows.{slotsAt, Row}
 use Rattle.rows.proofs.Rows.{row-short}
-use Rattle.look.specs.View.{atsIn, lensIn, madeIn, viewIn, judged}
+use Rattle.look.specs.declared.View.{View}
+use Rattle.look.specs.View.{judged, Sighted}
 use Rattle.look.proofs.Judged.{steps-refused, seen-size, seen-readable, seen-most, seen-values}
 use Rattle.look.proofs.Laws.{Seen}
 use Rattle.render.specs.Rendering.{carriedOn, rendering, Renderable, Rendered}
@@ -41,36 +42,48 @@ pub seen-carried : (t : List ℕ) → contentIn t .carried ≡ carriedOn t
 unfolding contentIn
 seen-carried t = refl
 
-module _ (t made : List ℕ) (y : bytes t ≡ true) (j : judged t ≡ got tt) (h : Seen t made) where
-  abbrev full : List ℕ
-  full = filled (madeIn t) made
+-- what was seen of the tag t: where it lies, that it can be rendered, and that what is rendered of it is what is read
+module _ (t lent ats lens made : List ℕ) (v : View) (y : bytes t ≡ true) (s : Sighted t lent ats lens made v) (h : Seen t lent) where
+  pub sighted-made : 19 ≡ length made
+  sighted-made = rw (s .made-is) (sym (h .made-length))
 
-  -- what was seen can be rendered
-  pub seen-renderable : (blocks : List ℕ) → blocks ≡ part (viewIn t .blocks .at) (viewIn t .blocks .len) t
-      → Renderable t full (atsIn t) (lensIn t) (viewIn t .count) (viewIn t .size) blocks
-  seen-renderable blocks e = record {
-    whole = seen-readable t j .blocks;
-    short = seen-most t j;
-    counted = h .count ∙ ap length (seen-carried t);
-    sized = h .size ∙ ap (λ (bs : List (List ℕ)). length (joined bs)) (seen-carried t);
-    row = h .row;
-    lengths = row-short t full (atsIn t) (lensIn t) (h .row) numbers (rw (h .slots) (seen-values t j y));
-    piece = λ l.
-        let len : ℕ = viewIn t .blocks .len in
-        let whole : length (part (viewIn t .blocks .at) len t) ≡ len = length-take-le len _ (omega (arith, length-drop (viewIn t .blocks .at) t, h .blocks-inside)) in
-        e ∙ h .blocks (sym whole ∙ ap length (sym e) ∙ l) ∙ ap joined (seen-carried t);
-  }
+  pub sighted-inside : v .blocks .at + v .blocks .len ≤ length t
+  sighted-inside = rw (s .view-is) (h .blocks-inside)
 
-  -- and what is rendered of it is what is read
+  sighted-blocks : v .blocks .len ≡ v .size → part (v .blocks .at) (v .blocks .len) t ≡ joined (contentIn t .carried)
+  sighted-blocks = rw (s .view-is) (h .blocks)
+
+  sighted-slots : slotsAt (t ++ made) ats lens ≡ contentIn t .slots
+  sighted-slots = rw (s .ats-is, s .lens-is, s .made-is) (h .slots)
+
+  sighted-row : Row t made ats lens
+  sighted-row = rw (s .ats-is, s .lens-is, s .made-is) (h .row)
+
+  pub sighted-renderable : Renderable t made ats lens (v .count) (v .size) (take (v .blocks .at + v .blocks .len - v .blocks .at) (drop (v .blocks .at) t))
+  sighted-renderable =
+      let at : ℕ = v .blocks .at in
+      let len : ℕ = v .blocks .len in
+      let cut : take (at + len - at) (drop at t) ≡ part at len t = let e : at + len - at ≡ len = omega arith in ap (λ (n : ℕ). take n (drop at t)) e in
+      let whole : length (part at len t) ≡ len = length-take-le len (drop at t) (omega (arith, length-drop at t, sighted-inside)) in
+      record {
+        whole = seen-readable t (s .seen) .blocks;
+        short = seen-most t (s .seen);
+        counted = rw (s .view-is) (h .count ∙ ap length (seen-carried t));
+        sized = rw (s .view-is) (h .size ∙ ap (λ (bs : List (List ℕ)). length (joined bs)) (seen-carried t));
+        row = sighted-row;
+        lengths = row-short t made ats lens sighted-row numbers (ap (valuesAt numbers) sighted-slots ∙ seen-values t (s .seen) y);
+        piece = λ l. cut ∙ sighted-blocks (sym whole ∙ ap length (sym cut) ∙ l) ∙ ap joined (seen-carried t);
+      }
+
   pub rendered-reads : (buffer : List ℕ) (r : NumberAnswer) (sheet : List ℕ)
-      → Rendered (entries (record { slots = slotsAt (t ++ full) (atsIn t) (lensIn t); carried = carriedOn t })) buffer r sheet → Reads t buffer r sheet
+      → Rendered (entries (record { slots = slotsAt (t ++ made) ats lens; carried = carriedOn t })) buffer r sheet → Reads t buffer r sheet
   unfolding reading readSteps
   rendered-reads buffer r sheet d =
-      let c : Content = record { slots = slotsAt (t ++ full) (atsIn t) (lensIn t); carried = carriedOn t } in
-      let e : c ≡ contentIn t = ap₂ (λ (ss bs : List (List ℕ)). record { slots = ss; carried = bs }) (h .slots) (sym (seen-carried t)) in
-      let v : ℕ = length (sheetIn t) in
+      let c : Content = record { slots = slotsAt (t ++ made) ats lens; carried = carriedOn t } in
+      let e : c ≡ contentIn t = ap₂ (λ (ss bs : List (List ℕ)). record { slots = ss; carried = bs }) sighted-slots (sym (seen-carried t)) in
+      let n : ℕ = length (sheetIn t) in
       let a : reading pageSize t buffer .answer ≡ rendering (entries c) buffer =
-      next-ok _ _ _ v (seen-size t j) ∙ readable-on t _ v (seen-readable t j) ∙ ap (λ (x : Content). rendering (entries x) buffer) (sym e) in
+      next-ok _ _ _ n (seen-size t (s .seen)) ∙ readable-on t _ n (seen-readable t (s .seen)) ∙ ap (λ (x : Content). rendering (entries x) buffer) (sym e) in
       record {
         answered = d .answered ∙ sym a;
         left = d .left ∙ ap₂ (λ (m : Answer ℕ) (x : Content). afterwards m (filled (sheetOf (entries x)) buffer) buffer) (sym a) e;
