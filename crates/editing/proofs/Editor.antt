@@ -27,6 +27,10 @@ use Rattle.look.proofs.Judged.{seen-readable, seen-sound}
 use Rattle.image.specs.Drafting.{drafting}
 use Rattle.editing.specs.Editing.{Sized}
 
+-- 2 and 9
+abbrev pub valueSteps : ℕ → List ℕ → ℕ → List Step
+valueSteps n s room = need 2 (leb 255 room) ∷ need 9 (known n && value n s) ∷ []
+
 module _ (t locks : List ℕ) (n : ℕ) (s buffer : List ℕ) where
   abbrev c : Content
   c = contentIn t
@@ -68,11 +72,7 @@ module _ (t locks : List ℕ) (n : ℕ) (s buffer : List ℕ) where
     -- ---- a tag that was seen
 
     module _ (j : judged t ≡ got tt) where
-      -- 2 and 9
-      abbrev pub valueSteps : List Step
-      valueSteps = need 2 (leb 255 (length buffer)) ∷ need 9 (known n && value n s) ∷ []
-
-      seen-answer : editing pageSize t locks n s buffer .answer ≡ inOrder (need 13 (ownLayout t) ∷ valueSteps ++ layingSteps pageSize locks t edited) given
+      seen-answer : editing pageSize t locks n s buffer .answer ≡ inOrder (need 13 (ownLayout t) ∷ (valueSteps n s (length buffer)) ++ layingSteps pageSize locks t edited) given
       unfolding editing editSteps
       seen-answer = next-ok 1 sized _ given z ∙ readable-on t _ given (seen-readable t j)
 
@@ -80,12 +80,12 @@ module _ (t locks : List ℕ) (n : ℕ) (s buffer : List ℕ) where
       own-edits k m r e = refused-edits k m (seen-answer ∙ first-no (need 13 (ownLayout t)) _ _ (plain k) r) e
 
       module _ (o : ownLayout t ≡ true) where
-        pub value-edits : (k m : ℕ) → inOrder {A = Unit {0}} valueSteps tt ≡ refused (plain k) → m ≡ k → Edits t locks n s buffer (edit.Refused m) t buffer
-        value-edits k m r e = refused-edits k m (seen-answer ∙ next-ok 13 (ownLayout t) _ _ o ∙ refused-on valueSteps _ tt given (plain k) r) e
+        pub value-edits : (k m : ℕ) → inOrder {A = Unit {0}} (valueSteps n s (length buffer)) tt ≡ refused (plain k) → m ≡ k → Edits t locks n s buffer (edit.Refused m) t buffer
+        value-edits k m r e = refused-edits k m (seen-answer ∙ next-ok 13 (ownLayout t) _ _ o ∙ refused-on (valueSteps n s (length buffer)) _ tt given (plain k) r) e
 
         -- ---- the rest is laying down
 
-        module _ (p : inOrder {A = Unit {0}} valueSteps tt ≡ got tt) where
+        module _ (p : inOrder {A = Unit {0}} (valueSteps n s (length buffer)) tt ≡ got tt) where
           past-two : (leb 255 (length buffer) ≡ true) × (inOrder {A = Unit {0}} (need 9 (known n && value n s) ∷ []) tt ≡ got tt)
           past-two = next-inv 2 _ _ tt tt p
 
@@ -103,7 +103,7 @@ module _ (t locks : List ℕ) (n : ℕ) (s buffer : List ℕ) where
           old-room y = omega (arith, leb-true 255 (length buffer) (past-two .0), value-short n (el c n) (value-of c (seen-sound t j y) n edit-known))
 
           reached : editing pageSize t locks n s buffer .answer ≡ inOrder (layingSteps pageSize locks t edited) given
-          reached = seen-answer ∙ next-ok 13 (ownLayout t) _ _ o ∙ passed-on valueSteps _ tt tt given p
+          reached = seen-answer ∙ next-ok 13 (ownLayout t) _ _ o ∙ passed-on (valueSteps n s (length buffer)) _ tt tt given p
 
           pub draft-edits : (k m : ℕ) → drafting (length t) (edited .slots) (joined (edited .carried)) ≡ refused (plain k) → m ≡ k → Edits t locks n s buffer (edit.Refused m) t buffer
           unfolding drafting

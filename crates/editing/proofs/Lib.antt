@@ -1,4 +1,5 @@
 pub mod Editor
 pub mod Rows
 pub mod Own
+pub mod Edited
 pub mod One

@@ -13,7 +13,7 @@ use Rattle.format.specs.Bytes.{joined}
 use Rattle.format.specs.Pages.{pageSize, goodSize, lockMap, changed, lockedChanged}
 use Rattle.format.specs.Elements.{Content, numbers, valuesAt}
 use Rattle.format.specs.Sheet.{rightSheet, entriesIn, goodValues}
-use Rattle.format.specs.Layout.{layout, hasLayout, image, fits}
+use Rattle.format.specs.Layout.{image, fits}
 use Rattle.format.specs.Calls.{layingSteps, sheetContent, writeSteps, writing}
 use Rattle.format.specs.Numbers.{answerGiven, stageGiven, Writes}
 use Rattle.format.specs.declared.NumberAnswer.{NumberAnswer}
@@ -28,6 +28,7 @@ use Rattle.rows.specs.Rows.{slotsAt}
 use Rattle.sheet.specs.Scanning.{atsIn, lensIn, carriedAt, scanning, Scanned}
 use Rattle.sheet.proofs.Laws.{Found}
 use Rattle.image.specs.Drafting.{Draftable, Drafted, drafting, sealing, unsealed}
+use Rattle.image.proofs.Laws.{sealed-layout}
 use Rattle.pages.specs.Storing.{lockJudged, countStored, tagStored}
 use Rattle.pages.proofs.Laws.{good-size-whole, lock-step, stored-count, stored-tag}
 use Rattle.writing.specs.Writing.{Writable}
@@ -125,7 +126,7 @@ module _ (s ats lens : List ℕ) (r : NumberAnswer) (ats′ lens′ : List ℕ) 
 
 -- ---- a good sheet, drafted, sealed and stored
 
-module _ (sealed-layout : (n : ℕ) (ss : List (List ℕ)) (blocks : List ℕ) → 32 ≤ n → hasLayout n ss blocks ≡ true → sealing (unsealed n ss blocks) ≡ layout n ss blocks) (s t locks d₀ ats lens : List ℕ) (k : ℕ) (w : Writable d₀ t locks) (g : Good s k ats lens) (f : Found s) where
+module _ (s t locks d₀ ats lens : List ℕ) (k : ℕ) (w : Writable d₀ t locks) (g : Good s k ats lens) (f : Found s) where
   pub carried-inside : k ≤ length s
   carried-inside = rw (g .carried) (f .carried-inside)
 

@@ -1,20 +1,13 @@
 -- `writing::write_on` passes the refusals of its stages on, or stores the sealed draft.
 use mathlib.Core.Path.{_≡_, sym, ap, _∙_}
-use Prim.Native.Nat.{ℕ, _≤_}
-use mathlib.Core.List.{List}
-use mathlib.Core.Bool.{true}
+use Prim.Native.Nat.{_≤_}
 use lib.ListN.{length}
-use Rattle.format.specs.Layout.{layout, hasLayout}
 use Rattle.format.specs.Numbers.{numberOf, stageGiven}
-use Rattle.image.specs.Drafting.{sealing, unsealed}
 use Rattle.sheet.proofs.Laws.{Found}
 use Rattle.writing.proofs.Writer.{Good, scanned-good, scanned-refused, carried-inside, good-draftable, drafted-refused, locked-refused, stored-writes}
 use borrow.Author.Needs.{needs}
 use Rattle.writing.proofs.write_on.Statement.{statement}
 use Rattle.writing.proofs.write_on.Tie as tie
-
-sealed-layout : (n : ℕ) (ss : List (List ℕ)) (blocks : List ℕ) → 32 ≤ n → hasLayout n ss blocks ≡ true → sealing (unsealed n ss blocks) ≡ layout n ss blocks
-sealed-layout = ?
 
 -- the call, from where the sheet has been scanned
 abbrev at-start : tie.After-scan → tie.Start
@@ -54,7 +47,7 @@ part-draft-end : tie.Need-part-draft-end
 part-draft-end c = search needs
 
 inside : (k : tie.After-scanned) → k .scanned .given .0 .0 ≤ length (at-start (at-scan k) .args .sheet .now)
-inside k = carried-inside sealed-layout _ _ _ _ _ _ _ (at-start (at-scan k) .pre) (good k) (found k)
+inside k = carried-inside _ _ _ _ _ _ _ (at-start (at-scan k) .pre) (good k) (found k)
 
 sub-draft-2 : tie.Need-sub-draft-2
 sub-draft-2 c = inside (c .before .before .before .before)
@@ -68,7 +61,7 @@ part-draft-end-2 c = search needs
 draft-requires : tie.Need-draft-requires
 draft-requires c κs =
     let k = c .before .before .before .before .before .before in
-    (good-draftable sealed-layout _ _ _ _ _ _ _ (at-start (at-scan k) .pre) (good k) (found k), ?)
+    (good-draftable _ _ _ _ _ _ _ (at-start (at-scan k) .pre) (good k) (found k), ?)
 
 enum-told-2 : tie.Need-enum-told-2
 enum-told-2 c = search needs
@@ -88,7 +81,7 @@ returns-2 c =
     let d = c .before .before .before .before .before in
     let k = at-scanned d in
     let told = ap stageGiven (c .before .enum-told3 .given .1) in
-    drafted-refused sealed-layout _ _ _ _ _ _ _ (at-start (at-scan k) .pre) (good k) (found k) _ _ (d .draft .ensures) _ _ told (c .stage-number .ensures ∙ ap numberOf told)
+    drafted-refused _ _ _ _ _ _ _ (at-start (at-scan k) .pre) (good k) (found k) _ _ (d .draft .ensures) _ _ told (c .stage-number .ensures ∙ ap numberOf told)
 
 seal-requires : tie.Need-seal-requires
 seal-requires c κs = ?
@@ -115,7 +108,7 @@ returns-3 c =
     let d = at-draft l in
     let k = at-scanned d in
     let told = ap stageGiven (c .before .enum-told5 .given .1) in
-    locked-refused sealed-layout _ _ _ _ _ _ _ (at-start (at-scan k) .pre) (good k) (found k) _ _ (d .draft .ensures) (ap stageGiven (l .before .before .before .before .before .before .before .enum-told2 .given .1)) _
+    locked-refused _ _ _ _ _ _ _ (at-start (at-scan k) .pre) (good k) (found k) _ _ (d .draft .ensures) (ap stageGiven (l .before .before .before .before .before .before .before .enum-told2 .given .1)) _
     (l .before .before .before .before .before .seal .ensures) (l .lock-stage .result) (l .lock-stage .ensures) _ _ told (c .stage-number2 .ensures ∙ ap numberOf told)
 
 store-requires : tie.Need-store-requires
@@ -142,7 +135,7 @@ returns-4 c =
     let l = s .before .before .before .before .before in
     let d = at-draft l in
     let k = at-scanned d in
-    stored-writes sealed-layout _ _ _ _ _ _ _ (at-start (at-scan k) .pre) (good k) (found k) _ _ (d .draft .ensures) (ap stageGiven (l .before .before .before .before .before .before .before .enum-told2 .given .1)) _
+    stored-writes _ _ _ _ _ _ _ (at-start (at-scan k) .pre) (good k) (found k) _ _ (d .draft .ensures) (ap stageGiven (l .before .before .before .before .before .before .before .enum-told2 .given .1)) _
     (l .before .before .before .before .before .seal .ensures) (l .lock-stage .result) (l .lock-stage .ensures) (ap stageGiven (s .before .before .before .enum-told4 .given .1)) _ _ (s .store .ensures .0) (s .store .ensures .1)
 
 pub write-on-spec : {M : Type 1} → statement M
