@@ -1,6 +1,7 @@
 pub mod Counted
 pub mod Chain
 pub mod Places
+pub mod Formed
 pub mod Laws
 pub mod Piece
 pub mod Turns

@@ -6,6 +6,7 @@ ghost use lib.ListN.{getD, drop};
 ghost use Rattle.format.specs.Bytes.{xorAll};
 ghost use Rattle.format.specs.Chain.{idOf, wellFormed, isLibrary};
 ghost use Rattle.chain.specs.Part.{thatPart};
+ghost use Rattle.chain.specs.Formed.{formedBy};
 ghost use Rattle.chain.specs.Survey.{surveyOf, surveyNumber};
 
 // ---- the walker
@@ -86,11 +87,10 @@ pub fn id_of(block: &[u8]) -> usize
     byte_at(block, 1) + 256 * byte_at(block, 2)
 }
 
-// Is the block well formed, and no second block 1? `x` is the XOR of the bytes behind the first, where the block is
-// structured; it is the first byte where the XOR of the whole block is 00. `seen`: a block 1 came before.
-fn right_block(block: &[u8], x: u8, seen: bool) -> bool
-    requires { ⌜ (idOf (now block) ≤ 100 → x ≡ xorAll (drop 1 (now block))) ⌝ }
-    ensures { λ r. ⌜ r ≡ (wellFormed (now (block .entry)) && not (isLibrary (now (block .entry)) && seen)) ⌝ }
+// Is the block well formed, where `x` is the XOR of the bytes behind the first? It is looked at only where the block is structured;
+// it is the first byte where the XOR of the whole block is 00.
+pub fn formed_by(block: &[u8], x: u8) -> bool
+    ensures { λ r. ⌜ r ≡ formedBy x (now (block .entry)) ⌝ }
 {
     if block.len() < 3 {
         return false;
@@ -105,13 +105,21 @@ fn right_block(block: &[u8], x: u8, seen: bool) -> bool
     if 100 < id {
         return true;
     }
-    if id == 1 && seen {
-        return false;
-    }
     if block.len() < 4 {
         return false;
     }
     x == block[0]
+}
+
+// Is the block well formed, and no second block 1? `seen`: a block 1 came before.
+fn right_block(block: &[u8], x: u8, seen: bool) -> bool
+    requires { ⌜ (idOf (now block) ≤ 100 → x ≡ xorAll (drop 1 (now block))) ⌝ }
+    ensures { λ r. ⌜ r ≡ (wellFormed (now (block .entry)) && not (isLibrary (now (block .entry)) && seen)) ⌝ }
+{
+    if id_of(block) == 1 && seen {
+        return false;
+    }
+    formed_by(block, x)
 }
 
 // Walks the chain from byte 34, from block to block and over the bytes of each structured block for its XOR, and stops

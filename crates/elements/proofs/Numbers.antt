@@ -1,28 +1,14 @@
--- What a number says of its element: which numbers are known, and what shape and form each asks for.
-use mathlib.Core.Path.{_≡_, refl, sym, ap, _∙_}
-use Prim.Native.Nat.{ℕ, _+_, _-_, _≤_, _<_}
+-- What shape and form a number asks for, and what may be set for it.
+use mathlib.Core.Path.{_≡_, refl, sym}
+use Prim.Native.Nat.{ℕ, _≤_, _<_}
 use native.Mathlib.Omega.{arith}
 use mathlib.Core.Bool.{Bool, true, false, not, _&&_, and-true}
 use mathlib.Core.List.{List, [], _∷_}
 use lib.Dec.{leb}
 use lib.ListN.{length}
 use borrow.Author.Tests.{ne-eqb, le-leb, lt-leb, leb-true, leb-false}
-use Rattle.format.specs.Elements.{numbers, required, shape, form, value, placeIn, place, known}
+use Rattle.format.specs.Elements.{required, shape, form, value, known}
 use Rattle.format.proofs.Tests.{never, and-l, and-no}
-
--- ---- known numbers
-
--- where each of k numbers from m on is known, so is a number among them
-pub known-among : (m k n : ℕ) → m ≤ n → n < m + k → ((i : ℕ) → i < k → known (m + i) ≡ true) → true ≡ known n
-known-among m k n lo hi each =
-    let e : m + (n - m) ≡ n = omega arith in
-    sym (each (n - m) (omega arith)) ∙ ap known e
-
--- a number that is none of the table's is unknown
-pub unknown : (n : ℕ) → (n ≡ 1 → ⊥) → (n ≡ 3 → ⊥) → (n ≡ 4 → ⊥) → (n ≡ 5 → ⊥) → (n ≡ 19 → ⊥) → (n ≡ 22 → ⊥) → (n ≡ 23 → ⊥) → known n ≡ false
-unfolding known place placeIn numbers
-unknown n a b c d e f g =
-    rw (ne-eqb 1 n (λ h. a (sym h)), ne-eqb 3 n (λ h. b (sym h)), ne-eqb 4 n (λ h. c (sym h)), ne-eqb 5 n (λ h. d (sym h)), ne-eqb 19 n (λ h. e (sym h)), ne-eqb 22 n (λ h. f (sym h)), ne-eqb 23 n (λ h. g (sym h)))
 
 -- ---- shapes and forms
 

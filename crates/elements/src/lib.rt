@@ -2,7 +2,6 @@
 ghost use mathlib.Core.Path.{_≡_};
 ghost use mathlib.Core.Bool.{_&&_};
 ghost use Prim.Native.Nat.{_<_};
-ghost use Rattle.format.specs.Fields.{text};
 ghost use Rattle.format.specs.Chain.{carriable};
 ghost use Rattle.format.specs.Elements.{setInfo, shape, form, value, known};
 
@@ -51,23 +50,16 @@ fn carriable(block: &[u8]) -> bool
     if block.len() < 3 {
         return false;
     }
-    if block[0] as usize != block.len() {
-        return false;
-    }
-    let id = strings::word(block[1], block[2]);
-    if id == 0 {
-        return false;
-    }
+    let id = chain::id_of(block);
     if id == 1 {
         return false;
     }
-    if 100 < id {
-        return true;
-    }
-    if block.len() < 4 {
-        return false;
-    }
-    strings::xor_of(block) == 0
+    let x = if id <= 100 {
+        strings::xor_of(&block[1..])
+    } else {
+        0
+    };
+    chain::formed_by(block, x)
 }
 
 // Have the bytes the shape of the element with this number; an unknown number has none.
@@ -100,10 +92,7 @@ fn has_form(number: u32, value: &[u8]) -> bool
 fn known(number: u32) -> bool
     ensures { λ r. ⌜ r ≡ known number ⌝ }
 {
-    match number {
-        1 | 3 | 4 | 5 | 19 | 22 | 23 => true,
-        _ => false,
-    }
+    rows::place_of(number) < 7
 }
 
 // Have the bytes the form of an element's number in a sheet; 255 is a carried block.

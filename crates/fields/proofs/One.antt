@@ -4,7 +4,8 @@ use mathlib.Core.Bool.{Bool}
 use Prim.Native.Nat.{ℕ}
 use mathlib.Core.List.{List}
 use Rattle.format.specs.Fields.{text, isil, alternative}
-use Rattle.fields.specs.Forms.{itemForm, ownerForm, libraryForm}
+use Rattle.format.specs.Numbers.{numberOf}
+use Rattle.fields.specs.Forms.{itemForm, ownerForm, libraryForm, itemGiven, ownerGiven, libraryGiven}
 use Rattle.fields.specs.declared.ItemField.{ItemField}
 use Rattle.fields.specs.declared.OwnerField.{OwnerField}
 use Rattle.fields.specs.declared.LibraryField.{LibraryField}
@@ -26,3 +27,12 @@ owner-in-one field r r₂ a b = a ∙ sym b
 
 pub library-in-one : (block : List ℕ) (r r₂ : LibraryField) → r ≡ libraryForm block → r₂ ≡ libraryForm block → r ≡ r₂
 library-in-one block r r₂ a b = a ∙ sym b
+
+pub item-number-one : (field : ItemField) (r r₂ : ℕ) → r ≡ numberOf (itemGiven field) → r₂ ≡ numberOf (itemGiven field) → r ≡ r₂
+item-number-one field r r₂ a b = a ∙ sym b
+
+pub owner-number-one : (field : OwnerField) (r r₂ : ℕ) → r ≡ numberOf (ownerGiven field) → r₂ ≡ numberOf (ownerGiven field) → r ≡ r₂
+owner-number-one field r r₂ a b = a ∙ sym b
+
+pub library-number-one : (field : LibraryField) (r r₂ : ℕ) → r ≡ numberOf (libraryGiven field) → r₂ ≡ numberOf (libraryGiven field) → r ≡ r₂
+library-number-one field r r₂ a b = a ∙ sym b

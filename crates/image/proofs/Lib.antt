@@ -1,7 +1,6 @@
 pub mod Drafts
-pub mod Checks
 pub mod OwnerForms
 pub mod BlockBytes
+pub mod Laws
 pub mod Placing
-pub mod Alike
 pub mod One

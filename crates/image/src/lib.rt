@@ -5,10 +5,20 @@ mod sizes;
 
 use format::Stage;
 ghost use mathlib.Core.Path.{_≡_};
+ghost use mathlib.Core.List.{List, [], _++_};
+ghost use Prim.Native.Nat.{ℕ, _<_};
+ghost use lib.ListN.{getD};
+ghost use Rattle.format.specs.Bytes.{if_then_else_, part};
+ghost use Rattle.format.specs.Fields.{long};
+ghost use Rattle.format.specs.Elements.{slot, clash};
+ghost use Rattle.format.specs.Layout.{ownerOf};
+ghost use Rattle.rows.specs.Rows.{Stands};
+ghost use Rattle.image.specs.Laying.{Sized};
 ghost use Rattle.image.specs.Drafting.{Draftable, Drafted, sealing};
 
 // Do two elements clash: 3 with 23, or 22 with a 1 longer than 16 bytes.
 fn clashing(lens: &[usize; 7]) -> bool
+    ensures { λ r. ⌜ ((ss : List (List ℕ)) → Sized ss (now (lens .entry)) → r ≡ clash ss) ⌝ }
 {
     if lens[1] != 0 {
         if lens[6] != 0 {
@@ -19,19 +29,29 @@ fn clashing(lens: &[usize; 7]) -> bool
 }
 
 // The element at place k of the table.
-fn slot<'a>(src: &'a [u8], made: &'a [u8], ats: &[usize; 7], lens: &[usize; 7], k: usize) -> &'a [u8]
+fn slot<'a>(
+    src: &'a [u8],
+    made: &'a [u8],
+    ats: &[usize; 7],
+    lens: &[usize; 7],
+    k: usize,
+) -> &'a [u8]
+    requires { ⌜ (k < 7) × Stands (now src) (now made) (getD (now ats) k 0) (getD (now lens) k 0) ⌝ }
+    ensures { λ r. ⌜ now r ≡ part (getD (now (ats .entry)) k 0) (getD (now (lens .entry)) k 0) (now (src .entry) ++ now (made .entry)) ⌝ }
 {
     rows::piece(src, made, ats[k], lens[k])
 }
 
 // The place of the owner: the ISIL's, or the alternative owner's where there is none.
 fn owner_place(lens: &[usize; 7]) -> usize
+    ensures { λ r. ⌜ (r < 7) × ((ss : List (List ℕ)) → Sized ss (now (lens .entry)) → getD ss r [] ≡ ownerOf ss) ⌝ }
 {
     if lens[1] == 0 { 6 } else { 1 }
 }
 
 // The place of what block 1 has in its item field: an element 1 longer than 16 bytes, else 22.
 fn item_place(lens: &[usize; 7]) -> usize
+    ensures { λ r. ⌜ (r < 7) × ((ss : List (List ℕ)) → Sized ss (now (lens .entry)) → getD ss r [] ≡ if long (slot ss 1) then slot ss 1 else slot ss 22) ⌝ }
 {
     if 16 < lens[0] { 0 } else { 5 }
 }
@@ -53,17 +73,22 @@ pub fn draft<'a>(
     }
     let n = draft.len();
     let owner = slot(src, made, ats, lens, owner_place(lens));
-    let usage = slot(src, made, ats, lens, 3);
+    let usage = slot(src, made, ats, lens, 3)[0];
     let media = sizes::first_or_zero(slot(src, made, ats, lens, 4));
     let item = slot(src, made, ats, lens, item_place(lens));
     let name = sizes::owner_behind(owner, n);
-    let code = sizes::usage_behind(usage[0]);
+    let code = sizes::usage_behind(usage);
     let size = sizes::block_size(media, item, name, code);
-    if !sizes::has_room(size, carried.len(), n) {
+    if !sizes::has_room(size, carried, n) {
         return Stage::Refused(11);
     }
-    basic::put_front(draft, slot(src, made, ats, lens, 0), slot(src, made, ats, lens, 2), usage);
-    basic::put_owner(draft, owner);
+    basic::put_front(
+        draft,
+        slot(src, made, ats, lens, 0),
+        slot(src, made, ats, lens, 2),
+        usage,
+    );
+    basic::put_owner(draft, owner, name.len() != 0);
     let at = 21 + sizes::owner_width(n);
     if size != 0 {
         blocks::put_block(draft, at, size, media, item, name, code);

@@ -1,7 +1,20 @@
 // Sizes: which owner needs block 1, how long that is, and whether all has room.
+ghost use mathlib.Core.Path.{_≡_};
+ghost use mathlib.Core.Bool.{_&&_, _||_};
+ghost use mathlib.Core.List.{[]};
+ghost use Prim.Native.Nat.{_+_, _%_, _≤_};
+ghost use lib.Dec.{eqb, leb};
+ghost use lib.ListN.{length, getD};
+ghost use Rattle.format.specs.Bytes.{if_then_else_, isEmpty};
+ghost use Rattle.format.specs.Fields.{basicOwner};
+ghost use Rattle.format.specs.Chain.{blockOne};
+ghost use Rattle.format.specs.Layout.{ownerWidth};
+ghost use Rattle.image.specs.Laying.{OwnerOrNone, fieldsOf, Given};
 
 // The width of the owner field on n bytes.
 pub fn owner_width(n: usize) -> usize
+    requires { ⌜ 21 ≤ n ⌝ }
+    ensures { λ r. ⌜ r ≡ ownerWidth n ⌝ }
 {
     if n < 34 {
         return n - 21;
@@ -10,7 +23,9 @@ pub fn owner_width(n: usize) -> usize
 }
 
 // Needs the owner no block 1: there is none, or a field of `width` bytes holds it in a basic form.
-pub fn is_basic(owner: &[u8], width: usize) -> bool
+fn is_basic(owner: &[u8], width: usize) -> bool
+    requires { ⌜ OwnerOrNone (now owner) ⌝ }
+    ensures { λ r. ⌜ r ≡ isEmpty (now (owner .entry)) || basicOwner width (now (owner .entry)) ⌝ }
 {
     if owner.len() == 0 {
         return true;
@@ -29,6 +44,8 @@ pub fn is_basic(owner: &[u8], width: usize) -> bool
 
 // The owner that block 1 holds, on a tag of n bytes: none, or one that the basic forms do not hold.
 pub fn owner_behind(owner: &[u8], n: usize) -> &[u8]
+    requires { ⌜ OwnerOrNone (now owner) × (21 ≤ n) ⌝ }
+    ensures { λ r. ⌜ now r ≡ if isEmpty (now (owner .entry)) || basicOwner (ownerWidth n) (now (owner .entry)) then [] else now (owner .entry) ⌝ }
 {
     if is_basic(owner, owner_width(n)) {
         return &owner[0..0];
@@ -38,6 +55,7 @@ pub fn owner_behind(owner: &[u8], n: usize) -> &[u8]
 
 // The usage byte that block 1 holds: 0 where the sub qualifier is 0.
 pub fn usage_behind(usage: u8) -> u8
+    ensures { λ r. ⌜ r ≡ if eqb (usage % 16) 0 then 0 else usage ⌝ }
 {
     if usage % 16 == 0 {
         return 0;
@@ -47,6 +65,7 @@ pub fn usage_behind(usage: u8) -> u8
 
 // The first byte, 0 where there is none.
 pub fn first_or_zero(bytes: &[u8]) -> u8
+    ensures { λ r. ⌜ r ≡ getD (now (bytes .entry)) 0 0 ⌝ }
 {
     if bytes.len() == 0 {
         return 0;
@@ -56,15 +75,18 @@ pub fn first_or_zero(bytes: &[u8]) -> u8
 
 // The length of block 1: the last of its fields that is there decides.
 pub fn block_size(media: u8, item: &[u8], owner: &[u8], usage: u8) -> usize
+    requires { ⌜ Given (fieldsOf media (now item) (now owner) usage) ⌝ }
+    ensures { λ r. ⌜ r ≡ length (blockOne (fieldsOf media (now (item .entry)) (now (owner .entry)) usage)) ⌝ }
 {
+    let both = item.len() + owner.len();
     if usage != 0 {
-        return item.len() + owner.len() + 8;
+        return both + 8;
     }
     if owner.len() != 0 {
-        return item.len() + owner.len() + 6;
+        return both + 6;
     }
     if item.len() != 0 {
-        return item.len() + 5;
+        return both + 5;
     }
     if media != 0 {
         return 5;
@@ -72,15 +94,13 @@ pub fn block_size(media: u8, item: &[u8], owner: &[u8], usage: u8) -> usize
     0
 }
 
-// Has a block 1 of `size` bytes room on a tag of n bytes, and so many bytes of carried blocks behind it.
-pub fn has_room(size: usize, carried: usize, n: usize) -> bool
+// Have a block 1 of `size` bytes and the carried blocks behind it room on a tag of n bytes.
+pub fn has_room(size: usize, carried: &[u8], n: usize) -> bool
+    requires { ⌜ 32 ≤ n ⌝ }
+    ensures { λ r. ⌜ r ≡ leb size 255 && leb (21 + ownerWidth n + size + length (now (carried .entry))) n ⌝ }
 {
     if 255 < size {
         return false;
     }
-    let left = n - 21 - owner_width(n);
-    if left < size {
-        return false;
-    }
-    carried <= left - size
+    21 + owner_width(n) + size + carried.len() <= n
 }

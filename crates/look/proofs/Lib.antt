@@ -1,4 +1,7 @@
-pub mod Holding
-pub mod Finding
-pub mod Looking
+pub mod Steps
+pub mod Standing
+pub mod Making
+pub mod Elements
+pub mod Judged
+pub mod Laws
 pub mod One

@@ -45,6 +45,9 @@ ownerPartsOn t = ownerParts (part 21 13 t)
 abbrev pub libraryPartsOn : List ℕ → LibraryParts
 libraryPartsOn t = libraryParts (libraryBlock (blocksIn t))
 
+abbrev pub partsOn : List ℕ → ItemParts × OwnerParts × LibraryParts
+partsOn t = (itemOn t, ownerPartsOn t, libraryPartsOn t)
+
 -- the paper's number and values for each case
 abbrev pub fieldsGiven : FieldsFound → Answer (ItemParts × OwnerParts × LibraryParts)
 fieldsGiven (fields.Good i o l) = got (i, o, l)

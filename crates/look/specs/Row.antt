@@ -3,9 +3,9 @@
 -- the tag: set information, usage, and an ISIL with its hyphen.
 use mathlib.Core.Path.{_≡_}
 use Prim.Native.Nat.{ℕ, _+_, _*_, _≤_}
-use mathlib.Core.Bool.{true, false, not, _&&_}
+use mathlib.Core.Bool.{not, _&&_}
 use mathlib.Core.List.{List, [], _∷_, _++_, map}
-use lib.ListN.{length, getD, take, drop}
+use lib.ListN.{length, getD, take, drop, set}
 use lib.Dec.{eqb}
 use Rattle.format.specs.declared.Part.{Part}
 use Rattle.format.specs.Bytes.{if_then_else_, part}
@@ -83,16 +83,20 @@ atsBy t block i o l = map (λ (p : Part). p .at) (rowBy t block i o l)
 abbrev pub lensBy : List ℕ → ℕ → ItemParts → OwnerParts → LibraryParts → List ℕ
 lensBy t block i o l = map (λ (p : Part). p .len) (rowBy t block i o l)
 
--- what is made
+-- what is made: set information and usage, and behind them the ISIL
+abbrev pub frontMade : List ℕ → LibraryParts → List ℕ
+frontMade t l = getD t 1 0 ∷ 0 ∷ getD t 2 0 ∷ 0 ∷ usageBy t l ∷ []
+
 unfoldable pub madeBy : List ℕ → OwnerParts → LibraryParts → List ℕ
-madeBy t o l = getD t 1 0 ∷ 0 ∷ getD t 2 0 ∷ 0 ∷ usageBy t l ∷ isilBytes t o l
+madeBy t o l = frontMade t l ++ isilBytes t o l
 
 -- ---- the carried blocks
 
--- in one piece, by the place and length of block 1, their size and the chain's end: nowhere, unless block 1 is the first block or there is
--- none, and the chain has no filler
+-- in one piece, by the place and length of block 1, their size and the chain's end: nowhere, unless there are some, block 1 is the first
+-- block or there is none, and the chain has no filler
 unfoldable pub pieceBy : ℕ → ℕ → ℕ → ℕ → Part
 pieceBy library length size end =
+    if eqb size 0 then nowhere else
     if not (eqb length 0) && not (eqb library 34) then nowhere else
     if not (eqb (34 + length + size) end) then nowhere else
     from (34 + length) size
@@ -113,5 +117,18 @@ pub record IsilLies (t : List ℕ) (prefix unit : ℕ) : Type 0 where
 -- the owner lies inside the tag
 pub record OwnerLies (t : List ℕ) (at : ℕ) (o : OwnerParts) (l : LibraryParts) : Type 0 where
   pub size : length t ≤ 2048
-  pub field : (eqb (o .prefix) 0 ≡ false) → IsilLies t (o .prefix) (o .isil)
-  pub block : (eqb (l .owner) 0 ≡ false) → at + l .owner ≤ length t
+  pub field : (o .prefix ≡ 0 → ⊥) → IsilLies t (o .prefix) (o .isil)
+  pub block : (l .owner ≡ 0 → ⊥) → at + l .owner ≤ length t
+
+-- and so does block 1
+pub record RowLies (t : List ℕ) (block : ℕ) (o : OwnerParts) (l : LibraryParts) : Type 0 where
+  pub least : 32 ≤ length t
+  pub begins : block ≤ length t
+  pub item : l .item ≤ length t
+  pub owner : OwnerLies t (block + 6 + l .item) o l
+
+-- what laying down the owner leaves
+pub record OwnerHeld (t : List ℕ) (at : ℕ) (o : OwnerParts) (l : LibraryParts) (ats lens made ats′ lens′ made′ : List ℕ) : Type 0 where
+  pub ats-left : ats′ ≡ set (set ats 6 (otherBy t at o l .at)) 1 (isilBy t at o l .at)
+  pub lens-left : lens′ ≡ set (set lens 6 (otherBy t at o l .len)) 1 (isilBy t at o l .len)
+  pub made-left : made′ ≡ stead 5 (isilBytes t o l) made

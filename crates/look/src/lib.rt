@@ -2,7 +2,7 @@
 mod basic;
 mod library;
 mod owner;
-mod view;
+mod row;
 
 use chain::Survey;
 use format::Part;
@@ -55,7 +55,13 @@ pub fn look_at(tag: &[u8], ats: &mut [usize; 7], lens: &mut [usize; 7], made: &m
     else {
         return Look::Refused(chain::survey_number(survey));
     };
-    let found = library::find_fields(tag, Part { at: library, len: length });
+    let found = library::find_fields(
+        tag,
+        Part {
+            at: library,
+            len: length,
+        },
+    );
     let FieldsFound::Good(item, owner, fields) = found else {
         return Look::Refused(library::fields_number(found));
     };
@@ -63,8 +69,8 @@ pub fn look_at(tag: &[u8], ats: &mut [usize; 7], lens: &mut [usize; 7], made: &m
     let Stage::Passed = agreed else {
         return Look::Refused(format::stage_number(agreed));
     };
-    view::fill_row(tag, library, item, owner, fields, ats, lens, made);
-    let blocks = view::one_piece(library, length, size, end);
+    row::fill_row(tag, library, item, owner, fields, ats, lens, made);
+    let blocks = row::one_piece(library, length, size, end);
     Look::Seen(View {
         count,
         size,

@@ -14,7 +14,7 @@ ghost use Rattle.format.specs.Pieces.{Held};
 ghost use Rattle.format.specs.Chain.{libraryBlock};
 ghost use Rattle.format.specs.Reading.{blocksIn, goodFields, agree};
 ghost use Rattle.format.specs.Numbers.{stageGiven, numberOf};
-ghost use Rattle.look.specs.Looking.{Sized, itemOn, ownerPartsOn, libraryPartsOn, fieldsGiven, FieldsOf};
+ghost use Rattle.look.specs.Looking.{Sized, partsOn, fieldsGiven, FieldsOf};
 
 // All fields are good, or the number of the refusal.
 pub enum FieldsFound {
@@ -35,7 +35,7 @@ pub fn fields_number(found: FieldsFound) -> u32
 // Refusal 6: is the ordinal above the parts, or does a field break its form? Else what the fields hold.
 pub fn find_fields(tag: &[u8], block: Part) -> FieldsFound
     requires { ⌜ Sized (now tag) × Held (now tag) block (libraryBlock (blocksIn (now tag))) ⌝ }
-    ensures { λ r. ⌜ fieldsGiven r ≡ inOrder (need 6 (goodFields (now (tag .entry))) ∷ []) (itemOn (now (tag .entry)), ownerPartsOn (now (tag .entry)), libraryPartsOn (now (tag .entry))) ⌝ }
+    ensures { λ r. ⌜ fieldsGiven r ≡ inOrder (need 6 (goodFields (now (tag .entry))) ∷ []) (partsOn (now (tag .entry))) ⌝ }
 {
     if tag[1] < tag[2] {
         return FieldsFound::Refused(6);

@@ -1,12 +1,11 @@
 // Where the owner of a readable tag stands.
-use crate::view::hold;
+use crate::row::hold;
 use fields::LibraryParts;
 use fields::OwnerParts;
 ghost use mathlib.Core.Path.{_≡_};
 ghost use mathlib.Core.List.{[], _∷_};
-ghost use lib.ListN.{set};
 ghost use Rattle.format.specs.Fields.{alternate};
-ghost use Rattle.look.specs.Row.{stead, isilMade, isilBytes, isilBy, otherBy, IsilLies, OwnerLies};
+ghost use Rattle.look.specs.Row.{stead, isilMade, IsilLies, OwnerLies, OwnerHeld};
 
 // Does this byte, 02 or 03, begin an alternative owner?
 fn begins_other(first: u8) -> bool
@@ -44,18 +43,16 @@ pub fn hold_owner(
     made: &mut [u8; 19],
 )
     requires { ⌜ OwnerLies (now tag) at owner library ⌝ }
-    ensures { λ _. ⌜ (now (ats .exit) ≡ set (set (now (ats .entry)) 1 (isilBy (now (tag .entry)) at owner library .at)) 6 (otherBy (now (tag .entry)) at owner library .at))
-        × (now (lens .exit) ≡ set (set (now (lens .entry)) 1 (isilBy (now (tag .entry)) at owner library .len)) 6 (otherBy (now (tag .entry)) at owner library .len))
-        × (now (made .exit) ≡ stead 5 (isilBytes (now (tag .entry)) owner library) (now (made .entry))) ⌝ }
+    ensures { λ _. ⌜ OwnerHeld (now (tag .entry)) at owner library (now (ats .entry)) (now (lens .entry)) (now (made .entry)) (now (ats .exit)) (now (lens .exit)) (now (made .exit)) ⌝ }
 {
     if library.owner != 0 {
         if begins_other(tag[at]) {
-            hold(ats, lens, 1, 0, 0);
             hold(ats, lens, 6, at, library.owner);
+            hold(ats, lens, 1, 0, 0);
             return;
         }
-        hold(ats, lens, 1, at, library.owner);
         hold(ats, lens, 6, 0, 0);
+        hold(ats, lens, 1, at, library.owner);
         return;
     }
     hold(ats, lens, 6, 23, owner.other);

@@ -2,5 +2,5 @@ pub mod Comparing
 pub mod Words
 pub mod Counting
 pub mod Storing
-pub mod Outcome
+pub mod Laws
 pub mod One

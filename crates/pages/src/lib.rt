@@ -1,20 +1,17 @@
 // The pages of a tag: its size, its lock map, and storing an image on it page by page.
+use format::Stage;
 ghost use mathlib.Core.Path.{_≡_};
-ghost use mathlib.Core.Bool.{not};
-ghost use Prim.Native.Nat.{_+_, _*_, _%_, _≤_, _<_};
+ghost use mathlib.Core.Bool.{not, _&&_};
+ghost use Prim.Native.Nat.{_+_, _*_, _≤_, _<_};
 ghost use lib.Dec.{eqb};
 ghost use lib.ListN.{length};
-ghost use Rattle.format.specs.Bytes.{all, same, part};
-ghost use Rattle.format.specs.Pages.{pageSize, goodSize, lockMap, differs, changed, lockedChanged};
-ghost use Rattle.pages.specs.Storing.{isOpen, asNumber, storedGiven, storing, withPage};
+ghost use Rattle.format.specs.Answers.{need};
+ghost use Rattle.format.specs.Bytes.{all, same};
+ghost use Rattle.format.specs.Numbers.{stageGiven};
+ghost use Rattle.format.specs.Pages.{pageSize, goodSize, lockMap, differs, lockedChanged};
+ghost use Rattle.pages.specs.Storing.{isOpen, numberAt, lockJudged, SharedPage, SharedPages, withPage, countStored, tagStored};
 
 const PAGE: usize = 4;
-
-// The count of pages changed, or the number of the refusal.
-pub enum Stored {
-    Done(usize),
-    Refused(u32),
-}
 
 // Can a tag have n bytes: 32, or whole pages from 36 to 2,048.
 pub fn good_size(n: usize) -> bool
@@ -40,6 +37,19 @@ pub fn good_locks(locks: &[u8], n: usize) -> bool
     true
 }
 
+// 1: the tag's length, and its lock map.
+pub fn size_stage(n: usize, locks: &[u8]) -> Stage
+    ensures { λ r. ⌜ stageGiven r ≡ need 1 (goodSize pageSize n && lockMap pageSize (now (locks .entry)) n) ⌝ }
+{
+    if !good_size(n) {
+        return Stage::Refused(1);
+    }
+    if !good_locks(locks, n) {
+        return Stage::Refused(1);
+    }
+    Stage::Passed
+}
+
 // Are the two equally long, with the same bytes. The loop goes on past a difference: so the compiler compares many bytes at once.
 pub fn same(a: &[u8], b: &[u8]) -> bool
     ensures { λ r. ⌜ r ≡ same (now (a .entry)) (now (b .entry)) ⌝ }
@@ -56,24 +66,24 @@ pub fn same(a: &[u8], b: &[u8]) -> bool
     equal
 }
 
-// A byte as a wider number.
-fn wide(x: u8) -> u32
-    ensures { λ r. ⌜ (r ≡ x) × (r < 256) ⌝ }
+// Four bytes as one number, low byte first.
+fn number(a: u8, b: u8, c: u8, d: u8) -> u32
+    ensures { λ r. ⌜ r ≡ a + 256 * b + 65536 * c + 16777216 * d ⌝ }
 {
-    x as u32
+    a as u32 + 256 * (b as u32) + 65536 * (c as u32) + 16777216 * (d as u32)
 }
 
 // The bytes of the page at `at` as one number, low byte first: the compiler makes it one load.
 fn word(s: &[u8], at: usize) -> u32
     requires { ⌜ at + pageSize ≤ length (now s) ⌝ }
-    ensures { λ r. ⌜ r ≡ asNumber (part at pageSize (now (s .entry))) ⌝ }
+    ensures { λ r. ⌜ r ≡ numberAt (now (s .entry)) at ⌝ }
 {
-    wide(s[at]) + 256 * wide(s[at + 1]) + 65536 * wide(s[at + 2]) + 16777216 * wide(s[at + 3])
+    number(s[at], s[at + 1], s[at + 2], s[at + 3])
 }
 
 // Do the bytes of page i differ.
 fn page_differs(tag: &[u8], image: &[u8], i: usize) -> bool
-    requires { ⌜ (i * pageSize + pageSize ≤ length (now tag)) × (length (now image) ≡ length (now tag)) ⌝ }
+    requires { ⌜ SharedPage (now image) (now tag) i ⌝ }
     ensures { λ r. ⌜ r ≡ differs pageSize (now (tag .entry)) (now (image .entry)) i ⌝ }
 {
     let at = i * PAGE;
@@ -82,7 +92,7 @@ fn page_differs(tag: &[u8], image: &[u8], i: usize) -> bool
 
 // Stores page i of the image on the tag, and leaves the tag's other pages as they are.
 fn store_page(image: &[u8], tag: &mut [u8], i: usize)
-    requires { ⌜ (i * pageSize + pageSize ≤ length (now tag)) × (length (now image) ≡ length (now tag)) ⌝ }
+    requires { ⌜ SharedPage (now image) (now tag) i ⌝ }
     ensures { λ _. ⌜ now (tag .exit) ≡ withPage pageSize (now (image .entry)) (now (tag .entry)) i ⌝ }
 {
     let at = i * PAGE;
@@ -121,12 +131,34 @@ fn locked_differs(image: &[u8], tag: &[u8], locks: &[u8]) -> bool
     false
 }
 
-// Stores the image on the tag, and counts the pages whose bytes it changes.
-fn store_pages(image: &[u8], tag: &mut [u8]) -> usize
-    requires { ⌜ (length (now image) ≡ length (now tag)) × (length (now tag) % pageSize ≡ 0) ⌝ }
-    ensures { λ r. ⌜ (r ≡ changed pageSize (now (tag .entry)) (now (image .entry))) × (now (tag .exit) ≡ now (image .entry)) ⌝ }
+// 12: a locked page would get other bytes. It is refused 1 where the image is not as long as the tag.
+pub fn lock_stage(image: &[u8], tag: &[u8], locks: &[u8]) -> Stage
+    ensures { λ r. ⌜ stageGiven r ≡ lockJudged pageSize (now (image .entry)) (now (tag .entry)) (now (locks .entry)) ⌝ }
 {
+    if image.len() != tag.len() {
+        return Stage::Refused(1);
+    }
+    // where no page is locked, the pages need not be compared twice
+    if any_locked(locks) && locked_differs(image, tag, locks) {
+        return Stage::Refused(12);
+    }
+    Stage::Passed
+}
+
+// How many pages both have.
+fn shared_pages(image: &[u8], tag: &[u8]) -> usize
+    ensures { λ r. ⌜ SharedPages (now (image .entry)) (now (tag .entry)) r ⌝ }
+{
+    let held = image.len() / PAGE;
     let pages = tag.len() / PAGE;
+    if pages < held { pages } else { held }
+}
+
+// Stores the pages that both have, page by page, and counts those whose bytes it changes.
+pub fn store(image: &[u8], tag: &mut [u8]) -> usize
+    ensures { λ r. ⌜ (r ≡ countStored pageSize (now (image .entry)) (now (tag .entry))) × (now (tag .exit) ≡ tagStored pageSize (now (image .entry)) (now (tag .entry))) ⌝ }
+{
+    let pages = shared_pages(image, tag);
     let mut n: usize = 0;
     let mut i = 0;
     while i < pages {
@@ -137,25 +169,4 @@ fn store_pages(image: &[u8], tag: &mut [u8]) -> usize
         i += 1;
     }
     n
-}
-
-// Stores the image on the tag page by page and gives the count of pages whose bytes differ before and after. It is refused 1 where the
-// image is not as long as the tag or the tag is no whole number of pages, 12 where a locked page would get other bytes; then the tag
-// stays the same.
-pub fn store(image: &[u8], tag: &mut [u8], locks: &[u8]) -> Stored
-    ensures { λ r. ⌜ (storedGiven r ≡ storing pageSize (now (image .entry)) (now (tag .entry)) (now (locks .entry)) .answer)
-        × (now (tag .exit) ≡ storing pageSize (now (image .entry)) (now (tag .entry)) (now (locks .entry)) .tag) ⌝ }
-{
-    if image.len() != tag.len() {
-        return Stored::Refused(1);
-    }
-    if tag.len() % PAGE != 0 {
-        return Stored::Refused(1);
-    }
-    // where no page is locked, the pages need not be compared twice
-    if any_locked(locks) && locked_differs(image, tag, locks) {
-        return Stored::Refused(12);
-    }
-    let n = store_pages(image, tag);
-    Stored::Done(n)
 }

@@ -1,5 +1,5 @@
-pub mod Several
+pub mod Storing
+pub mod Lengths
 pub mod Carrying
-pub mod Heads
 pub mod Rendering
 pub mod One

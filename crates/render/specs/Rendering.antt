@@ -23,24 +23,31 @@ carriedOn t = otherBlocks (blocksIn t)
 
 -- ---- elements by their lengths; one of no bytes has no entry
 
--- the head of an entry of len bytes
-abbrev pub headBy : ℕ → ℕ → ℕ → List ℕ
-headBy at n len = if eqb len 0 then [] else n ∷ le16 at ++ (len ∷ [])
+-- the head of an entry of len bytes that begin at `at`
+abbrev pub headOf : ℕ → ℕ → ℕ → List ℕ
+headOf at n len = n ∷ le16 at ++ (len ∷ [])
 
 -- the heads of elements with these numbers; the first one's bytes begin at `at`
-unfoldable pub headsBy : ℕ → List ℕ → List ℕ → List ℕ
+unfoldable pub headsBy : ℕ → List ℕ → List ℕ → List (List ℕ)
 headsBy at [] lens = []
 headsBy at (n ∷ ns) [] = []
-headsBy at (n ∷ ns) (len ∷ lens) = headBy at n len ++ headsBy (at + len) ns lens
+headsBy at (n ∷ ns) (len ∷ lens) = (if eqb len 0 then [] else headOf at n len) ∷ headsBy (at + len) ns lens
 
 -- how many entries they have, and how many bytes
-unfoldable pub countBy : List ℕ → ℕ
-countBy [] = 0
-countBy (len ∷ lens) = (if eqb len 0 then 0 else 1) + countBy lens
+unfoldable pub sumBy : (ℕ → ℕ) → List ℕ → ℕ
+sumBy f [] = 0
+sumBy f (len ∷ lens) = f len + sumBy f lens
 
-unfoldable pub sizeBy : List ℕ → ℕ
-sizeBy [] = 0
-sizeBy (len ∷ lens) = len + sizeBy lens
+abbrev pub countBy : List ℕ → ℕ
+countBy lens = sumBy (λ len. if eqb len 0 then 0 else 1) lens
+
+abbrev pub sizeBy : List ℕ → ℕ
+sizeBy lens = sumBy (λ len. len) lens
+
+-- a length for each number of the table, each a byte
+pub record Lengths (lens : List ℕ) : Type 0 where
+  pub seven : length lens ≡ 7
+  pub small : bytes lens ≡ true
 
 -- ---- what rendering relies on: a chain that is whole, its carried blocks counted, and a row of elements
 

@@ -2,21 +2,20 @@
 use format::NumberAnswer;
 use format::Stage;
 ghost use mathlib.Core.Path.{_≡_};
-ghost use mathlib.Core.Bool.{true};
 ghost use mathlib.Core.List.{[], _∷_, _++_};
 ghost use Prim.Native.Nat.{_+_, _≤_};
 ghost use lib.ListN.{length};
 ghost use lib.Dec.{leb, ltb};
 ghost use Rattle.format.specs.Answers.{got, need, inOrder};
-ghost use Rattle.format.specs.Bytes.{joined, bytes};
+ghost use Rattle.format.specs.Bytes.{joined};
 ghost use Rattle.format.specs.Chain.{idOf};
 ghost use Rattle.format.specs.Elements.{numbers};
 ghost use Rattle.format.specs.Reading.{walked, blocksIn};
 ghost use Rattle.format.specs.Numbers.{stageGiven};
-ghost use Rattle.format.specs.Sheet.{heads, bodies, carriedEntries, entriesAt, entries};
+ghost use Rattle.format.specs.Sheet.{heads, carriedEntries, entries};
 ghost use Rattle.format.specs.Pieces.{stored};
 ghost use Rattle.rows.specs.Rows.{slotsAt, Row};
-ghost use Rattle.render.specs.Rendering.{carriedOn, headBy, headsBy, countBy, sizeBy, Renderable, Rendered};
+ghost use Rattle.render.specs.Rendering.{carriedOn, headOf, headsBy, countBy, sizeBy, Lengths, Renderable, Rendered};
 
 // Is a block of a whole chain carried? A filler has no ID, the library extension has ID 1.
 fn is_carried(block: &[u8]) -> bool
@@ -45,14 +44,11 @@ fn gather(tag: &[u8], out: &mut [u8], at: usize) -> usize
 }
 
 // Writes to `sheet` from `at` on the head of the entry with this number: the number, the offset of its bytes (two bytes, low first),
-// their length. Writes nothing where it has no bytes. Answers the place behind the head.
+// their length. Answers the place behind the head.
 fn put_head(sheet: &mut [u8], at: usize, offset: usize, number: u8, len: usize) -> usize
-    requires { ⌜ (len ≤ 255) × (at + length (headBy offset number len) ≤ length (now sheet)) ⌝ }
-    ensures { λ r. ⌜ stored (now (sheet .entry)) at (headBy offset number len) r (now (sheet .exit)) ⌝ }
+    requires { ⌜ (len ≤ 255) × (at + 4 ≤ length (now sheet)) ⌝ }
+    ensures { λ r. ⌜ stored (now (sheet .entry)) at (headOf offset number len) r (now (sheet .exit)) ⌝ }
 {
-    if len == 0 {
-        return at;
-    }
     sheet[at] = number;
     sheet[at + 1] = (offset % 256) as u8;
     sheet[at + 2] = (offset / 256 % 256) as u8;
@@ -83,13 +79,13 @@ fn carried_heads(tag: &[u8], sheet: &mut [u8], at: usize, offset: usize) -> usiz
     }
 }
 
-// How many elements have bytes.
-fn numbered_count(lens: &[usize; 7]) -> usize
-    ensures { λ r. ⌜ (r ≤ 7) × (r ≡ countBy (now (lens .entry))) ⌝ }
+// How many elements have bytes. A row that is lent as a slice tells how long it is.
+fn numbered_count(lens: &[usize]) -> usize
+    ensures { λ r. ⌜ (r ≤ length (now (lens .entry))) × (r ≡ countBy (now (lens .entry))) ⌝ }
 {
     let mut n: usize = 0;
     let mut k: usize = 0;
-    while k < 7 {
+    while k < lens.len() {
         if lens[k] != 0 {
             n += 1;
         }
@@ -100,7 +96,7 @@ fn numbered_count(lens: &[usize; 7]) -> usize
 
 // How many bytes they have together.
 fn numbered_size(lens: &[usize; 7]) -> usize
-    requires { ⌜ bytes (now lens) ≡ true ⌝ }
+    requires { ⌜ Lengths (now lens) ⌝ }
     ensures { λ r. ⌜ (r ≤ 1785) × (r ≡ sizeBy (now (lens .entry))) ⌝ }
 {
     let mut n: usize = 0;
@@ -115,15 +111,18 @@ fn numbered_size(lens: &[usize; 7]) -> usize
 // Writes to `sheet` from byte 2 on the heads of these elements; `offset` is where their bytes begin in the sheet. Answers the place
 // behind the heads.
 fn numbered_heads(sheet: &mut [u8], offset: usize, lens: &[usize; 7]) -> usize
-    requires { ⌜ (offset ≤ 65535) × (bytes (now lens) ≡ true) × (2 + length (headsBy offset numbers (now lens)) ≤ length (now sheet)) ⌝ }
-    ensures { λ r. ⌜ stored (now (sheet .entry)) 2 (headsBy offset numbers (now (lens .entry))) r (now (sheet .exit)) ⌝ }
+    requires { ⌜ (offset ≤ 65535) × Lengths (now lens) × (2 + length (joined (headsBy offset numbers (now lens))) ≤ length (now sheet)) ⌝ }
+    ensures { λ r. ⌜ stored (now (sheet .entry)) 2 (joined (headsBy offset numbers (now (lens .entry)))) r (now (sheet .exit)) ⌝ }
 {
     let mut at: usize = 2;
     let mut from = offset;
     let mut k: usize = 0;
     while k < 7 {
-        at = put_head(sheet, at, from, rows::number_at(k), lens[k]);
-        from += lens[k];
+        let len = lens[k];
+        if len != 0 {
+            at = put_head(sheet, at, from, rows::number_at(k), len);
+            from += len;
+        }
         k += 1;
     }
     at
@@ -138,14 +137,16 @@ fn numbered_bytes<'a>(
     ats: &[usize; 7],
     lens: &[usize; 7],
 ) -> usize
-    requires { ⌜ Row (now tag) (now made) (now ats) (now lens) × (at + sizeBy (now lens) ≤ length (now sheet)) ⌝ }
+    requires { ⌜ Row (now tag) (now made) (now ats) (now lens) × (length (now ats) ≡ 7)
+        × (at + length (joined (slotsAt (now tag ++ now made) (now ats) (now lens))) ≤ length (now sheet)) ⌝ }
     ensures { λ r. ⌜ stored (now (sheet .entry)) at (joined (slotsAt (now (tag .entry) ++ now (made .entry)) (now (ats .entry)) (now (lens .entry)))) r (now (sheet .exit)) ⌝ }
 {
     let mut end = at;
     let mut k: usize = 0;
     while k < 7 {
-        if lens[k] != 0 {
-            end = strings::put_bytes(sheet, end, rows::piece(tag, made, ats[k], lens[k]));
+        let len = lens[k];
+        if len != 0 {
+            end = strings::put_bytes(sheet, end, rows::piece(tag, made, ats[k], len));
         }
         k += 1;
     }

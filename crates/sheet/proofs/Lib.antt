@@ -1,5 +1,4 @@
 pub mod Heads
 pub mod Walking
-pub mod Answering
-pub mod Placed
+pub mod Laws
 pub mod One

@@ -1,18 +1,11 @@
--- Each public function of `sheet` has one answer.
-use mathlib.Core.Path.{_≡_, sym, ap, _∙_}
+-- Each public function of `sheet` has one answer, and leaves one content of each buffer.
+use mathlib.Core.Path.{_≡_, sym, _∙_}
 use Prim.Native.Nat.{ℕ}
 use mathlib.Core.List.{List}
-use Rattle.format.proofs.Tests.{never}
-use Rattle.format.proofs.Answers.{got-inj}
-use Rattle.sheet.specs.Scanning.{scanning, scanGiven}
-use Rattle.sheet.specs.declared.Scanned.{Scanned}
-use Rattle.sheet.specs.declared.Scanned.the-variants.{Good, Refused}
+use Rattle.format.specs.declared.NumberAnswer.{NumberAnswer}
+use Rattle.format.proofs.One.{answer-same}
+use Rattle.sheet.specs.Scanning.{Scanned}
 
-given-one : (r q : Scanned) → scanGiven r ≡ scanGiven q → r ≡ q
-given-one (Good n) (Good m) e = ap Good (got-inj e)
-given-one (Good n) (Refused m) e = never (cc)
-given-one (Refused n) (Good m) e = never (cc)
-given-one (Refused n) (Refused m) e = let k : n ≡ m = cc in ap Refused k
-
-pub scan-one : (sheet : List ℕ) (r r₂ : Scanned) → scanGiven r ≡ scanning sheet → scanGiven r₂ ≡ scanning sheet → r ≡ r₂
-scan-one sheet r r₂ a b = given-one r r₂ (a ∙ sym b)
+pub scan-one : (sheet ats lens : List ℕ) (r r₂ : NumberAnswer) (ats′ lens′ ats₂ lens₂ : List ℕ) → Scanned sheet ats lens r ats′ lens′ → Scanned sheet ats lens r₂ ats₂ lens₂
+    → (r ≡ r₂) × (ats′ ≡ ats₂) × (lens′ ≡ lens₂)
+scan-one sheet ats lens r r₂ ats′ lens′ ats₂ lens₂ a b = (answer-same r r₂ (a .answered ∙ sym (b .answered)), a .ats-left ∙ sym (b .ats-left), a .lens-left ∙ sym (b .lens-left))

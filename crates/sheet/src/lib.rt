@@ -3,9 +3,9 @@
 use format::NumberAnswer;
 ghost use mathlib.Core.Path.{_≡_};
 ghost use Prim.Native.Nat.{_+_, _≤_};
-ghost use lib.ListN.{length, drop};
+ghost use lib.ListN.{length};
 ghost use Rattle.format.specs.Sheet.{bodyAt, countIn, entriesIn, rightSheet, goodValues};
-ghost use Rattle.sheet.specs.Heads.{RightOf, HeadOf, least};
+ghost use Rattle.sheet.specs.Heads.{RightOf, HeadOf};
 ghost use Rattle.sheet.specs.Scanning.{atsIn, lensIn, carriedAt, Scanned};
 
 // How many entries the sheet's first two bytes name.
@@ -14,6 +14,13 @@ fn count(sheet: &[u8]) -> usize
     ensures { λ r. ⌜ (r ≡ countIn (now (sheet .entry))) × (r ≤ 65535) ⌝ }
 {
     strings::word(sheet[0], sheet[1])
+}
+
+// A byte as a wider number.
+fn wide(x: u8) -> usize
+    ensures { λ r. ⌜ (r ≡ x) × (r ≤ 255) ⌝ }
+{
+    x as usize
 }
 
 // What the head of an entry says: its number, its offset and its length.
@@ -26,24 +33,18 @@ struct Head {
 // The head of entry i.
 fn head_at(sheet: &[u8], i: usize) -> Head
     requires { ⌜ bodyAt (i + 1) ≤ length (now sheet) ⌝ }
-    ensures { λ r. ⌜ HeadOf (drop (bodyAt i) (now (sheet .entry))) r ⌝ }
+    ensures { λ r. ⌜ HeadOf (now (sheet .entry)) (bodyAt i) r ⌝ }
 {
     let at = 2 + 4 * i;
     Head {
         number: sheet[at],
         offset: strings::word(sheet[at + 1], sheet[at + 2]),
-        len: sheet[at + 3] as usize,
+        len: wide(sheet[at + 3]),
     }
 }
 
-// The least number that may follow a number.
-fn least_after(number: u8) -> u8
-    ensures { λ r. ⌜ r ≡ least number ⌝ }
-{
-    if number == 255 { 255 } else { number + 1 }
-}
-
-// Are header, order, offsets and end right? `at` is where the bytes of entry i begin, `least` the least number that it may have.
+// Are header, order, offsets and end right? `at` is where the bytes of entry i begin, `least` the least number that it may have: numbers
+// rise strictly, and 255 may repeat.
 fn right(sheet: &[u8]) -> bool
     ensures { λ r. ⌜ r ≡ rightSheet (now (sheet .entry)) ⌝ }
 {
@@ -66,7 +67,11 @@ fn right(sheet: &[u8]) -> bool
             return false;
         }
         at += head.len;
-        least = least_after(head.number);
+        least = if head.number == 255 {
+            255
+        } else {
+            head.number + 1
+        };
         i += 1;
     }
     at == sheet.len()
@@ -97,24 +102,25 @@ fn good_values(sheet: &[u8], count: usize) -> bool
 
 // Where each element stands in a right sheet: its numbers rise as those of the table do, so the next entry has the next number, or there is
 // no entry with that. Answers where the carried blocks begin.
-fn fill_row(sheet: &[u8], count: usize, ats: &mut [usize; 7], lens: &mut [usize; 7]) -> usize
-    requires { ⌜ RightOf (now sheet) count ⌝ }
+fn fill_row(sheet: &[u8], count: usize, ats: &mut [usize], lens: &mut [usize]) -> usize
+    requires { ⌜ RightOf (now sheet) count × (length (now ats) ≡ 7) × (length (now lens) ≡ 7) ⌝ }
     ensures { λ r. ⌜ (r ≡ carriedAt (now (sheet .entry))) × (now (ats .exit) ≡ atsIn (now (sheet .entry))) × (now (lens .exit) ≡ lensIn (now (sheet .entry))) ⌝ }
 {
     let mut at = 2 + 4 * count;
-    let mut i: usize = 0;
+    let mut next: usize = 0;
     let mut k: usize = 0;
     while k < 7 {
         ats[k] = at;
-        lens[k] = 0;
-        if i < count {
-            let head = head_at(sheet, i);
+        let mut len: usize = 0;
+        if next < count {
+            let head = head_at(sheet, next);
             if head.number == rows::number_at(k) {
-                lens[k] = head.len;
-                at += head.len;
-                i += 1;
+                len = head.len;
+                at += len;
+                next += 1;
             }
         }
+        lens[k] = len;
         k += 1;
     }
     at

@@ -1,5 +1,5 @@
 -- `editing::edit_on` passes the refusals of its stages on, or stores the sealed draft of the edited row.
-use mathlib.Core.Path.{_≡_, sym, ap, _∙_}
+use mathlib.Core.Path.{_≡_, refl, sym, ap, _∙_}
 use Prim.Native.Nat.{_+_, _≤_}
 use mathlib.Core.Bool.{true}
 use native.Mathlib.Omega.{arith}
@@ -11,7 +11,7 @@ use Rattle.format.proofs.Tests.{bytes-all}
 use Rattle.format.proofs.Answers.{need-inv}
 use Rattle.look.specs.View.{lookGiven, Sighted}
 use Rattle.look.proofs.Judged.{looked-sighted, looked-refused}
-use Rattle.look.proofs.Laws.{Seen}
+use Rattle.look.proofs.Laws.{Seen, look-seen}
 use Rattle.editing.specs.Editing.{Fresh}
 use Rattle.editing.proofs.Editor.{look-edits, own-edits, value-edits}
 use Rattle.editing.proofs.Own.{own-inside, made-long}
@@ -26,7 +26,7 @@ abbrev at-start : tie.After-look-at → tie.Start
 at-start k = k .before .before .before .before .before .before .before .before .before .before
 
 look-at-requires : tie.Need-look-at-requires
-look-at-requires c κs = ?
+look-at-requires c κs = search needs
 
 enum-known-looked : tie.Need-enum-known-looked
 enum-known-looked c = search needs
@@ -54,7 +54,7 @@ sighted : (k : tie.After-looked) → let l = at-look k .look-at in
 sighted k = looked-sighted _ _ _ _ _ _ _ _ (at-look k .look-at .ensures) _ (k .looked .given .1)
 
 seen : (k : tie.After-looked) → Seen (at-start (at-look k) .args .tag .now) (replicate 19 0)
-seen k = ?
+seen k = look-seen _ _ (tag-bytes k) refl (sighted k .seen)
 
 slice-aggregate-own-stage : tie.Need-slice-aggregate-own-stage
 slice-aggregate-own-stage c = let k = c .before .before .before in made-long _ _ _ _ _ _ (tag-bytes k) (sighted k) (at-start (at-look k) .pre .0) (seen k)
@@ -196,7 +196,7 @@ fresh : (x : tie.After-clear) → Fresh (x .clear .last .0) (at-start (at-look (
 fresh x = cleared-fresh _ _ _ _ (at-start (at-look (at-sight (at-put (x .before .before)))) .pre .0) (x .before .before .before .before .before .before .before .before .before .before .before .before .before .before .before .before .draft .given) (x .clear .ensures)
 
 draft-requires : tie.Need-draft-requires
-draft-requires c κs = let x = c .before .before .before .before .before .before .before .before .before in let p = x .before .before in (edited-asks _ _ _ _ _ _ _ _ _ (taken (at-put p)) _ _ _ _ _ (is-put p) _ (fresh x), ?)
+draft-requires c κs = let x = c .before .before .before .before .before .before .before .before .before in let p = x .before .before in edited-asks _ _ _ _ _ _ _ _ _ (taken (at-put p)) _ _ _ _ _ (is-put p) _ (fresh x)
 
 enum-told-6 : tie.Need-enum-told-6
 enum-told-6 c = search needs
@@ -227,7 +227,7 @@ returns-4 c =
     drafted-refused _ _ _ _ _ _ _ _ _ (taken (at-put p)) _ _ _ _ _ (is-put p) _ (fresh x) _ _ (d .draft3 .ensures) _ _ told (c .stage-number3 .ensures ∙ ap numberOf told)
 
 seal-requires : tie.Need-seal-requires
-seal-requires c κs = ?
+seal-requires c κs = search needs
 
 lock-stage-requires : tie.Need-lock-stage-requires
 lock-stage-requires c κs = search needs

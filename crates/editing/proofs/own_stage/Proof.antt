@@ -1,5 +1,5 @@
 -- `editing::own_stage` meets its contract: the draft is compared with the tag.
-use mathlib.Core.Path.{_≡_, sym, ap, _∙_}
+use mathlib.Core.Path.{_≡_, refl, sym, ap, _∙_}
 use Prim.Native.Nat.{_+_, _≤_, _<_}
 use mathlib.Core.Bool.{true}
 use native.Mathlib.Omega.{arith}
@@ -9,7 +9,7 @@ use Rattle.format.specs.Bytes.{bytes}
 use Rattle.format.specs.Numbers.{stageGiven}
 use Rattle.format.proofs.Tests.{bytes-all}
 use Rattle.format.proofs.Answers.{need-ok, need-no}
-use Rattle.look.proofs.Laws.{Seen}
+use Rattle.look.proofs.Laws.{Seen, look-seen}
 use Rattle.editing.proofs.Own.{least, own-inside, own-draftable, loose-pieces, large, drafted-long, own-same}
 use borrow.Author.Needs.{needs}
 use Rattle.editing.proofs.own_stage.Statement.{statement}
@@ -23,7 +23,7 @@ tag-bytes : (k : tie.After-struct-known2) → bytes (at-start k .args .tag .now)
 tag-bytes k = bytes-all (at-start k .args .tag .now) (λ i h. omega (arith, k .before .before .before .before .before .shared-slice-known .given i))
 
 seen : (k : tie.After-struct-known2) → Seen (at-start k .args .tag .now) (replicate 19 0)
-seen k = ?
+seen k = look-seen _ _ (tag-bytes k) refl (at-start k .pre .0 .seen)
 
 returns : tie.Need-returns
 returns c = let k = c .before in loose-pieces _ _ _ _ _ _ (tag-bytes k) (at-start k .pre .0) (at-start k .pre .1) (seen k) (c .if1 .taken)
@@ -44,7 +44,7 @@ part-draft-end : tie.Need-part-draft-end
 part-draft-end c = inside (c .before .before)
 
 draft-requires : tie.Need-draft-requires
-draft-requires c κs = let k = c .before .before .before .before in (own-draftable _ _ _ _ _ _ (tag-bytes k) (at-start k .pre .0) (at-start k .pre .1) (seen k), ?)
+draft-requires c κs = let k = c .before .before .before .before in own-draftable _ _ _ _ _ _ (tag-bytes k) (at-start k .pre .0) (at-start k .pre .1) (seen k)
 
 enum-told : tie.Need-enum-told
 enum-told c = search needs

@@ -9,7 +9,7 @@ returns : tie.Need-returns
 returns c = sym (next-no 2 _ _ tt (lt-leb 255 _ (c .if1 .taken)))
 
 editable-requires : tie.Need-editable-requires
-editable-requires c κs = ?
+editable-requires c κs = search needs
 
 returns-2 : tie.Need-returns-2
 returns-2 c = sym (next-ok 2 _ _ tt (le-leb 255 _ (c .before .before .if1 .left)) ∙ next-no 9 _ _ tt (sym (c .before .editable .ensures) ∙ not-true _ (c .if2 .taken)))

@@ -1,9 +1,30 @@
 -- The tests are those of the definition, in its order.
-use mathlib.Core.Path.{sym}
+use mathlib.Core.Path.{_≡_, sym, _∙_}
+use Prim.Native.Nat.{ℕ}
+use mathlib.Core.Bool.{true, false, or-true}
+use mathlib.Core.List.{List}
+use lib.ListN.{length}
 use borrow.Author.Needs.{needs}
-use Rattle.fields.specs.Forms.{itemForm}
+use Rattle.format.specs.Bytes.{strip}
+use Rattle.format.specs.Fields.{text, marked, goodItem}
+use Rattle.fields.specs.declared.ItemField.the-variants.{Good, Refused}
+use Rattle.fields.specs.Forms.{itemParts, itemForm}
 use Rattle.fields.proofs.item_in.Statement.{statement}
 use Rattle.fields.proofs.item_in.Tie as tie
+
+-- the form by what the field holds
+module _ (f t : List ℕ) (e : t ≡ strip f) where
+  by-marker : marked t ≡ true → Good (record { marked = true; len = 0 }) ≡ itemForm f
+  unfolding itemForm itemParts goodItem
+  by-marker m = rw (← e, m, or-true (text t))
+
+  by-text : marked t ≡ false → text t ≡ true → Good (record { marked = false; len = length t }) ≡ itemForm f
+  unfolding itemForm itemParts goodItem
+  by-text m x = rw (← e, m, x)
+
+  by-none : marked t ≡ false → text t ≡ false → Refused 6 ≡ itemForm f
+  unfolding itemForm itemParts goodItem
+  by-none m x = rw (← e, m, x)
 
 held-requires : tie.Need-held-requires
 held-requires c κs = search needs
@@ -12,23 +33,20 @@ is-marker-requires : tie.Need-is-marker-requires
 is-marker-requires c κs = search needs
 
 returns : tie.Need-returns
-unfolding itemForm
-returns c = simp (sym (c .before .before .held .ensures), sym (c .before .is-marker .ensures), c .if1 .taken)
+returns c = by-marker _ _ (c .before .before .held .ensures) (sym (c .before .is-marker .ensures) ∙ c .if1 .taken)
 
 text-requires : tie.Need-text-requires
 text-requires c κs = search needs
 
 returns-2 : tie.Need-returns-2
-unfolding itemForm
 returns-2 c =
     let m = c .before .before in
-    simp (sym (m .before .before .held .ensures), sym (m .before .is-marker .ensures), m .if1 .left, sym (c .before .text .ensures), c .if2 .taken)
+    by-text _ _ (m .before .before .held .ensures) (sym (m .before .is-marker .ensures) ∙ m .if1 .left) (sym (c .before .text .ensures) ∙ c .if2 .taken)
 
 returns-3 : tie.Need-returns-3
-unfolding itemForm
 returns-3 c =
     let m = c .before .before in
-    simp (sym (m .before .before .held .ensures), sym (m .before .is-marker .ensures), m .if1 .left, sym (c .before .text .ensures), c .if2 .left)
+    by-none _ _ (m .before .before .held .ensures) (sym (m .before .is-marker .ensures) ∙ m .if1 .left) (sym (c .before .text .ensures) ∙ c .if2 .left)
 
 pub item-in-spec : {M : Type 1} → statement M
 item-in-spec =

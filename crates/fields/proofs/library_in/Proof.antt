@@ -12,7 +12,7 @@ use Rattle.format.specs.Fields.{text, isOwner}
 use Rattle.format.specs.Chain.{payload, lastField, libraryIn, goodLibrary}
 use Rattle.fields.specs.declared.LibraryField.{LibraryField}
 use Rattle.fields.specs.declared.LibraryField.the-variants.{Good, Refused}
-use Rattle.fields.specs.Forms.{partsOf, libraryForm}
+use Rattle.fields.specs.Forms.{libraryParts, libraryForm}
 use Rattle.fields.proofs.library_in.Statement.{statement}
 use Rattle.fields.proofs.library_in.Tie as tie
 
@@ -25,7 +25,7 @@ formBy p item owner last =
 
 by-parts : (b : List ℕ) {tail p fields item more owner last : List ℕ} → tail ≡ drop 4 b → p ≡ strip tail → fields ≡ drop 1 p
     → item ≡ upTo 0 fields → more ≡ past 0 fields → owner ≡ upTo 0 more → last ≡ past 0 more → libraryForm b ≡ formBy p item owner last
-unfolding libraryForm partsOf goodLibrary libraryIn lastField payload
+unfolding libraryForm libraryParts goodLibrary libraryIn lastField payload
 by-parts b t p f i m o l = rw (l, o, m, i, f, p, t)
 
 stands : {a b c : Bool} {m n m′ n′ i o : ℕ} → a ≡ true → b ≡ true → c ≡ true → m ≡ m′ → n ≡ n′

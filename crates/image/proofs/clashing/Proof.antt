@@ -1,45 +1,51 @@
 -- `image::clashing` meets its contract.
-use mathlib.Core.Path.{_≡_, refl, sym, ap, _∙_}
+use mathlib.Core.Path.{_≡_, sym, ap, _∙_}
 use mathlib.Core.Logic.{⊎-elim}
-use Prim.Native.Nat.{ℕ}
-use mathlib.Core.Bool.{Bool, true, false, not, _&&_, _||_}
-use mathlib.Core.List.{List, []}
-use lib.Dec.{eqb, leb}
-use lib.ListN.{length}
+use mathlib.Core.Bool.{false, not, _&&_}
+use lib.Dec.{eqb}
+use lib.ListN.{getD}
+use borrow.Author.Needs.{needs}
 use borrow.Author.Tests.{eq-eqb, ne-eqb}
-use Rattle.format.specs.Elements.{clash}
 use Rattle.format.proofs.Tests.{and-no}
-use Rattle.format.specs.Slices.{elements}
 use Rattle.image.proofs.Placing.{clash-lengths}
 use Rattle.image.proofs.clashing.Statement.{statement}
 use Rattle.image.proofs.clashing.Tie as tie
 
-module _ (item isil second other : List ℕ) where
-  -- by what the lengths say of each pair
-  told : (x y : Bool) → not (eqb (length isil) 0) && not (eqb (length other) 0) ≡ x → not (eqb (length second) 0) && leb 17 (length item) ≡ y
-      → x || y ≡ clash (elements item isil [] [] [] second other [])
-  told x y e f = sym (clash-lengths item isil [] [] [] second other [] ∙ rw (e, f))
+element-copy-out-if1 : tie.Need-element-copy-out-if1
+element-copy-out-if1 c = search needs
+
+element-copy-out-if2 : tie.Need-element-copy-out-if2
+element-copy-out-if2 c = search needs
 
 returns : tie.Need-returns
-returns c =
-    let a = c .before .before .args in
-    told (a .item .now) (a .isil .now) (a .second .now) (a .other .now) true _ (rw (ne-eqb _ 0 (c .before .if1 .taken), ne-eqb _ 0 (c .if2 .taken))) refl
+returns c = λ ss s. sym (clash-lengths ss _ s ∙ rw (ne-eqb _ 0 (c .before .before .if1 .taken), ne-eqb _ 0 (c .if2 .taken)))
+
+element-copy-out-if3 : tie.Need-element-copy-out-if3
+element-copy-out-if3 c = search needs
+
+element-copy-out-result : tie.Need-element-copy-out-result
+element-copy-out-result c = search needs
 
 -- no ISIL beside an alternative owner
-apart : (c : tie.Joined1) → not (eqb (length (c .before .args .isil .now)) 0) && not (eqb (length (c .before .args .other .now)) 0) ≡ false
+apart : (c : tie.Joined1) → let lens = c .before .before .args .lens .now in not (eqb (getD lens 1 0) 0) && not (eqb (getD lens 6 0) 0) ≡ false
 apart c =
-    let n = length (c .before .args .isil .now) in
-    ⊎-elim (λ w. and-no (not (eqb n 0)) _ (ap not (eq-eqb _ 0 (w .1 .left)))) (λ w. rw (eq-eqb n 0 (w .left))) (c .if1 .came)
+    let n = getD (c .before .before .args .lens .now) 1 0 in
+    ⊎-elim (λ w. and-no (not (eqb n 0)) _ (ap not (eq-eqb _ 0 (w .2 .left)))) (λ w. rw (eq-eqb n 0 (w .left))) (c .if1 .came)
 
 returns-2 : tie.Need-returns-2
-returns-2 c =
-    let a = c .before .before .args in
-    told (a .item .now) (a .isil .now) (a .second .now) (a .other .now) false _ (apart (c .before)) (rw (ne-eqb _ 0 (c .if3 .taken)))
+returns-2 c = λ ss s. sym (clash-lengths ss _ s ∙ rw (apart (c .before .before .before), ne-eqb _ 0 (c .before .if3 .taken)))
 
 returns-3 : tie.Need-returns-3
-returns-3 c =
-    let a = c .before .before .args in
-    told (a .item .now) (a .isil .now) (a .second .now) (a .other .now) false _ (apart (c .before)) (rw (eq-eqb _ 0 (c .if3 .left)))
+returns-3 c = λ ss s. sym (clash-lengths ss _ s ∙ rw (apart (c .before .before), eq-eqb _ 0 (c .if3 .left)))
 
 pub clashing-spec : {M : Type 1} → statement M
-clashing-spec = tie.close (tie.spec returns returns-2 returns-3)
+clashing-spec =
+    tie.close
+    (tie.spec
+    element-copy-out-if1
+    element-copy-out-if2
+    returns
+    element-copy-out-if3
+    element-copy-out-result
+    returns-2
+    returns-3)

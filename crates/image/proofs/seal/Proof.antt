@@ -1,46 +1,61 @@
--- `image::seal` meets its contract.
-use mathlib.Core.Path.{_≡_, ap, _∙_}
-use Prim.Native.Nat.{ℕ, _/_, _%_, _<_}
+-- `image::seal` meets its contract: two bytes in the CRC's place.
+use mathlib.Core.Path.{_≡_, sym, ap, _∙_}
+use Prim.Native.Nat.{ℕ, _/_, _%_, _≤_, _<_}
 use native.Mathlib.Omega.{arith}
 use mathlib.Core.List.{List, [], _∷_}
+use lib.ListN.{length, set, length-set}
 use borrow.Author.Needs.{needs}
+use borrow.Author.Tests.{lt-leb}
 use Rattle.format.specs.Bytes.{le16}
-use Rattle.image.specs.Laying.{withCheck}
+use Rattle.format.specs.Crc.{crc, covered}
+use Rattle.format.proofs.Pieces.{stored-byte, stored-then}
+use Rattle.image.specs.Drafting.{withCheck, sealing}
+use Rattle.image.proofs.Laws.{put-check, sealing-long}
 use Rattle.image.proofs.seal.Statement.{statement}
 use Rattle.image.proofs.seal.Tie as tie
 
 -- the two bytes of a number that two bytes hold
-two-bytes : (sum n : ℕ) → sum < 65536 → sum ≡ n → sum % 256 ∷ sum / 256 ∷ [] ≡ le16 n
+two-bytes : (n : ℕ) → n < 65536 → n % 256 ∷ n / 256 ∷ [] ≡ le16 n
 unfolding le16
-two-bytes sum n h e = let q : sum / 256 ≡ sum / 256 % 256 = omega arith in ap (λ (b : ℕ). sum % 256 ∷ b ∷ []) q ∙ ap (λ (x : ℕ). x % 256 ∷ x / 256 % 256 ∷ []) e
+two-bytes n h = let q : n / 256 ≡ n / 256 % 256 = omega arith in ap (λ (b : ℕ). n % 256 ∷ b ∷ []) q
+
+sealed : (d : List ℕ) (sum : ℕ) → 21 ≤ length d → sum < 65536 → sum ≡ crc (covered d) → set (set d 19 (sum % 256)) 20 (sum / 256) ≡ sealing d
+sealed d sum h l e = put-check d (sum % 256) (sum / 256) h ∙ ap (λ (s : List ℕ). withCheck s d) (two-bytes sum l ∙ ap le16 e) ∙ sym (sealing-long d h)
+
+returns : tie.Need-returns
+unfolding sealing
+returns c = rw (lt-leb 21 _ (c .if1 .taken))
 
 of-tag-requires : tie.Need-of-tag-requires
 of-tag-requires c κs = search needs
 
-cast-put-check : tie.Need-cast-put-check
-cast-put-check c = search needs
+cast-draft : tie.Need-cast-draft
+cast-draft c = search needs
 
-cast-put-check-2 : tie.Need-cast-put-check-2
-cast-put-check-2 c = search needs
+slice-write-draft : tie.Need-slice-write-draft
+slice-write-draft c = search needs
 
-put-check-requires : tie.Need-put-check-requires
-put-check-requires c κs = search needs
+cast-draft-2 : tie.Need-cast-draft-2
+cast-draft-2 c = search needs
+
+slice-write-draft-2 : tie.Need-slice-write-draft-2
+slice-write-draft-2 c = search needs
 
 same-length : tie.Need-same-length
 same-length c = search needs
 
-returns : tie.Need-returns
-returns c =
-    let c4 = c .before .before .before .before in
-    c .before .before .put-check .ensures ∙ ap (λ (s : List ℕ). withCheck s (c4 .before .before .before .args .draft .now)) (two-bytes _ _ (omega arith) (c4 .of-tag .ensures))
+returns-2 : tie.Need-returns-2
+returns-2 c = let e = c .before .before in sealed (e .before .before .args .draft .now) _ (e .if1 .left) (omega arith) (c .of-tag .ensures)
 
 pub seal-spec : {M : Type 1} → statement M
 seal-spec =
     tie.close
     (tie.spec
+    returns
     of-tag-requires
-    cast-put-check
-    cast-put-check-2
-    put-check-requires
+    cast-draft
+    slice-write-draft
+    cast-draft-2
+    slice-write-draft-2
     same-length
-    returns)
+    returns-2)

@@ -1,157 +1,116 @@
--- `look::look_at`: `begun`, `whole` and `standing` say what is known past each stage; the steps behind it go on with that.
+-- What is known past each stage has a name; the stages behind it go on with that.
 use mathlib.Core.Path.{_≡_, sym, ap, _∙_}
 use native.Mathlib.Omega.{arith}
 use borrow.Author.Needs.{needs}
 use Rattle.format.specs.Answers.{got, need}
 use Rattle.format.specs.Numbers.{stageGiven}
-use Rattle.format.specs.Reading.{agree}
+use Rattle.format.specs.Pieces.{Held}
+use Rattle.format.specs.Chain.{libraryBlock}
+use Rattle.format.specs.Reading.{blocksIn, agree}
 use Rattle.chain.specs.Survey.{surveyNumber}
 use Rattle.chain.proofs.Laws.{Surveyed, survey-whole, survey-refused}
-use Rattle.look.specs.Places.{placesIn}
-use Rattle.look.specs.Looking.{basicJudged, fieldsGiven}
-use Rattle.look.proofs.Finding.{refused-number, FoundAll, all-stand}
-use Rattle.look.proofs.Looking.{size-passed, basic-refused, begun-size, chain-refused, fields-refused, agree-refused, all-passed, view-is}
+use Rattle.look.specs.Row.{from}
+use Rattle.look.specs.Looking.{basicJudged, fieldsGiven, FieldsOf}
+use Rattle.look.proofs.Steps.{refused-number, fields-of, basic-refused, begun-size, chain-refused, fields-refused, agree-refused, all-passed, stopped, looked}
+use Rattle.look.proofs.Elements.{row-lies}
 use Rattle.look.proofs.look_at.Statement.{statement}
 use Rattle.look.proofs.look_at.Tie as tie
 
 -- past 1, 3 and 4
-begun : (c : tie.After-enum-told) → basicJudged (c .before .before .before .before .args .tag .now) ≡ got tt
-begun c = sym (c .before .before .basic-of .ensures) ∙ ap stageGiven (c .enum-told .given .1)
+abbrev at-start : tie.After-enum-told → tie.Start
+at-start c = c .before .before .before .before
+
+begun : (c : tie.After-enum-told) → basicJudged (at-start c .args .tag .now) ≡ got tt
+begun c = sym (c .before .before .basic-stage .ensures) ∙ ap stageGiven (c .enum-told .given .1)
 
 -- past 5
-whole : (c : tie.After-known-told) → let g = c .before .survey .given .0 in Surveyed (c .before .before .before .before .before .before .before .before .args .tag .now) (g .0) (g .1 .0) (g .1 .1 .0) (g .1 .1 .1 .0) (g .1 .1 .1 .1 .0)
+abbrev past-basic : tie.After-known-told → tie.After-enum-told
+past-basic c = c .before .before .before .before
+
+whole : (c : tie.After-known-told) → let g = c .before .survey .given .0 in Surveyed (at-start (past-basic c) .args .tag .now) (g .0) (g .1 .0) (g .1 .1 .0) (g .1 .1 .1 .0) (g .1 .1 .1 .1 .0)
 whole c = survey-whole _ _ _ _ _ _ (sym (c .before .before .before .survey-of .ensures) ∙ c .before .survey .given .1)
 
+block : (c : tie.After-known-told)
+    → let t = at-start (past-basic c) .args .tag .now in Held t (from (c .before .survey .given .0 .0) (c .before .survey .given .0 .1 .0)) (libraryBlock (blocksIn t))
+block c = let v = whole c in record { inside = v .inside; is = v .library }
+
 -- past 6
-standing : (c : tie.After-known-told2) → let g = c .before .found .given .0 in FoundAll (c .before .before .before .before .before .before .before .before .before .before .before .before .args .tag .now) (c .before .before .before .before .before .survey .given .0 .0) (g .0) (g .1 .0) (g .1 .1 .0)
-standing c =
-    let t = c .before .before .before .before .before .before .before .before .before .before .before .before .args .tag .now in
-    let v = whole (c .before .before .before .before) in
-    all-stand t (record { at = _; len = _ }) (size-passed t (begun-size t (begun (c .before .before .before .before .before .before .before .before)))) (record { inside = v .inside; is = v .library }) _ _ _
-    (sym (ap fieldsGiven (c .before .found .given .1)) ∙ c .before .before .before .find-fields .ensures)
+abbrev past-survey : tie.After-known-told2 → tie.After-known-told
+past-survey c = c .before .before .before .before
+
+found : (c : tie.After-known-told2) → let g = c .before .found .given .0 in FieldsOf (at-start (past-basic (past-survey c)) .args .tag .now) (g .0) (g .1 .0) (g .1 .1 .0)
+found c =
+    let b = past-basic (past-survey c) in
+    let t = at-start b .args .tag .now in
+    fields-of t (begun-size t (begun b)) _ _ _ (sym (ap fieldsGiven (c .before .found .given .1)) ∙ c .before .before .before .find-fields .ensures)
 
 -- past 7
-agreed : (c : tie.After-enum-told5) → need 7 (agree (c .before .before .before .before .before .before .before .before .before .before .before .before .before .before .before .args .tag .now)) ≡ got tt
+abbrev past-fields : tie.After-enum-told5 → tie.After-known-told2
+past-fields c = c .before .before .before
+
+agreed : (c : tie.After-enum-told5) → need 7 (agree (at-start (past-basic (past-survey (past-fields c))) .args .tag .now)) ≡ got tt
 agreed c = sym (c .before .before .agree-stage .ensures) ∙ ap stageGiven (c .enum-told5 .given .1)
-
-basic-of-requires : tie.Need-basic-of-requires
-basic-of-requires c κs = search needs
-
-enum-told : tie.Need-enum-told
-enum-told c = search needs
-
-enum-told-2 : tie.Need-enum-told-2
-enum-told-2 c = search needs
-
-stage-number-requires : tie.Need-stage-number-requires
-stage-number-requires c κs = search needs
 
 returns : tie.Need-returns
 returns c =
-    let r = c .before .before .before .basic-of in
+    let a = c .before .before .before .before .before .args in
+    let r = c .before .before .before .basic-stage in
     let e = refused-number (stageGiven (r .result)) _ _ (ap stageGiven (c .before .enum-told2 .given .1)) (c .stage-number .ensures) in
-    basic-refused (c .before .before .before .before .before .args .tag .now) _ (sym (r .ensures) ∙ e)
-
-survey-of-requires : tie.Need-survey-of-requires
-survey-of-requires c κs = search needs
-
-enum-known-survey : tie.Need-enum-known-survey
-enum-known-survey c = search needs
-
-enum-told-3 : tie.Need-enum-told-3
-enum-told-3 c = search needs
-
-survey-number-requires : tie.Need-survey-number-requires
-survey-number-requires c κs = search needs
+    stopped (a .tag .now) (a .ats .now) (a .lens .now) (a .made .now) _ (basic-refused (a .tag .now) _ (sym (r .ensures) ∙ e))
 
 returns-2 : tie.Need-returns-2
 returns-2 c =
-    let t = c .before .before .before .before .before .before .before .before .args .tag .now in
+    let b = c .before .before .before .before in
+    let a = at-start b .args in
     let told = c .before .enum-told3 .given .1 in
-    rw (c .survey-number .ensures ∙ ap surveyNumber told) (chain-refused t (begun (c .before .before .before .before)) _ (survey-refused t _ (sym (c .before .before .before .survey-of .ensures) ∙ told)))
-
-find-fields-requires : tie.Need-find-fields-requires
-find-fields-requires c κs =
-    let t = c .before .before .before .before .before .before .before .before .args .tag .now in
-    let v = whole c in
-    (size-passed t (begun-size t (begun (c .before .before .before .before))), record { inside = v .inside; is = v .library })
-
-enum-known-found : tie.Need-enum-known-found
-enum-known-found c = search needs
-
-enum-told-4 : tie.Need-enum-told-4
-enum-told-4 c = search needs
-
-fields-number-requires : tie.Need-fields-number-requires
-fields-number-requires c κs = search needs
+    rw (c .survey-number .ensures ∙ ap surveyNumber told)
+    (stopped (a .tag .now) (a .ats .now) (a .lens .now) (a .made .now) _
+    (chain-refused (a .tag .now) (begun b) _ (survey-refused (a .tag .now) _ (sym (c .before .before .before .survey-of .ensures) ∙ told))))
 
 returns-3 : tie.Need-returns-3
 returns-3 c =
-    let t = c .before .before .before .before .before .before .before .before .before .before .before .before .args .tag .now in
+    let w = c .before .before .before .before in
+    let b = past-basic w in
+    let a = at-start b .args in
     let r = c .before .before .before .find-fields in
     let e = refused-number (fieldsGiven (r .result)) _ _ (ap fieldsGiven (c .before .enum-told4 .given .1)) (c .fields-number .ensures) in
-    fields-refused t (begun (c .before .before .before .before .before .before .before .before)) (whole (c .before .before .before .before) .walks) (placesIn (c .before .before .before .before .before .survey .given .0 .0) t) _ (sym e ∙ r .ensures)
-
-agree-stage-requires : tie.Need-agree-stage-requires
-agree-stage-requires c κs = standing c .stand
-
-enum-told-5 : tie.Need-enum-told-5
-enum-told-5 c = search needs
-
-enum-told-6 : tie.Need-enum-told-6
-enum-told-6 c = search needs
-
-stage-number-requires-2 : tie.Need-stage-number-requires-2
-stage-number-requires-2 c κs = search needs
+    stopped (a .tag .now) (a .ats .now) (a .lens .now) (a .made .now) _
+    (fields-refused (a .tag .now) (begun b) (whole w .walks) _ (sym (r .ensures) ∙ e))
 
 returns-4 : tie.Need-returns-4
 returns-4 c =
-    let t = c .before .before .before .before .before .before .before .before .before .before .before .before .before .before .before .before .args .tag .now in
+    let f = c .before .before .before .before in
+    let w = past-survey f in
+    let b = past-basic w in
+    let a = at-start b .args in
     let r = c .before .before .before .agree-stage in
     let e = refused-number (stageGiven (r .result)) _ _ (ap stageGiven (c .before .enum-told6 .given .1)) (c .stage-number2 .ensures) in
-    agree-refused t (begun (c .before .before .before .before .before .before .before .before .before .before .before .before)) (whole (c .before .before .before .before .before .before .before .before) .walks) (standing (c .before .before .before .before) .stand .good) _ (sym (r .ensures) ∙ e)
+    stopped (a .tag .now) (a .ats .now) (a .lens .now) (a .made .now) _
+    (agree-refused (a .tag .now) (begun b) (whole w .walks) (found f .good) _ (sym (r .ensures) ∙ e))
 
 one-piece-requires : tie.Need-one-piece-requires
 one-piece-requires c κs =
-    let t = c .before .before .before .before .before .before .before .before .before .before .before .before .before .before .before .args .tag .now in
-    omega (arith, whole (c .before .before .before .before .before .before .before) .room, size-passed t (begun-size t (begun (c .before .before .before .before .before .before .before .before .before .before .before))) .most)
-
-view-of-requires : tie.Need-view-of-requires
-view-of-requires c κs = standing (c .before .before .before .before) .stand
+    let w = past-survey (past-fields (c .before .before .before .before)) in
+    let b = past-basic w in
+    omega (arith, whole w .room, begun-size (at-start b .args .tag .now) (begun b) .most)
 
 returns-5 : tie.Need-returns-5
 returns-5 c =
-    let t = c .before .before .before .before .before .before .before .before .before .before .before .before .before .before .before .before .before .args .tag .now in
-    let v = whole (c .before .before .before .before .before .before .before .before .before) in
-    let f = standing (c .before .before .before .before .before) in
-    let e = c .view-of .ensures in
-    rw (e, c .before .one-piece .ensures, f .items, f .owners, f .libraries, view-is t _ _ _ _ _ v)
-    (all-passed t (begun (c .before .before .before .before .before .before .before .before .before .before .before .before .before)) (v .walks) (f .stand .good) (agreed (c .before .before)))
+    let p = c .before .before .before .before .before in
+    let f = past-fields p in
+    let w = past-survey f in
+    let b = past-basic w in
+    let a = at-start b .args in
+    let t = a .tag .now in
+    let r = c .before .fill-row .ensures in
+    looked t (a .ats .now) (a .lens .now) (a .made .now) _ _ _ _ _ (whole w) _ _ _ (found f) (all-passed t (begun b) (whole w .walks) (found f .good) (agreed p)) (r .0) (r .1) (r .2) (c .one-piece .ensures)
 
 pub look-at-spec : {M : Type 1} → statement M
 look-at-spec =
     tie.close
-    (tie.spec
-    basic-of-requires
-    enum-told
-    enum-told-2
-    stage-number-requires
-    returns
-    survey-of-requires
-    enum-known-survey
-    enum-told-3
-    survey-number-requires
-    returns-2
-    find-fields-requires
-    enum-known-found
-    enum-told-4
-    fields-number-requires
-    returns-3
-    agree-stage-requires
-    enum-told-5
-    enum-told-6
-    stage-number-requires-2
-    returns-4
-    one-piece-requires
-    view-of-requires
+    (tie.spec (λ c κs. search needs) (λ c. search needs) (λ c. search needs) (λ c κs. search needs) returns (λ c κs. search needs)
+    (λ c. search needs) (λ c. search needs) (λ c κs. search needs) returns-2
+    (λ c κs. let b = past-basic c in (begun-size (at-start b .args .tag .now) (begun b), block c)) (λ c. search needs) (λ c. search needs)
+    (λ c κs. search needs) returns-3 (λ c κs. found c) (λ c. search needs) (λ c. search needs) (λ c κs. search needs) returns-4
+    (λ c κs. let f = past-fields (c .before .before .before) in row-lies _ (from _ _) (block (past-survey f)) _ _ _ (found f)) one-piece-requires
     returns-5)

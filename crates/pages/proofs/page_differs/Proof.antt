@@ -1,10 +1,9 @@
 -- `pages::page_differs` meets its contract: its pages differ where their numbers do.
-use mathlib.Core.Path.{sym, ap₂, _∙_}
+use mathlib.Core.Path.{ap₂, _∙_}
 use Prim.Native.Nat.{ℕ}
 use mathlib.Core.Bool.{not}
 use lib.Dec.{eqb}
 use borrow.Author.Needs.{needs}
-use Rattle.format.specs.Pages.{pageSize}
 use Rattle.format.proofs.Tests.{bytes-all}
 use Rattle.pages.proofs.Words.{differs-by-number}
 use Rattle.pages.proofs.page_differs.Statement.{statement}
@@ -23,7 +22,7 @@ returns : tie.Need-returns
 returns c =
     let a = c .before .before .before .before .args in
     ap₂ (λ (x y : ℕ). not (eqb x y)) (c .before .word .ensures) (c .word2 .ensures)
-    ∙ differs-by-number pageSize (a .tag .now) (a .image .now) (a .i) (sym (c .before .before .before .before .pre .1))
+    ∙ differs-by-number (a .tag .now) (a .image .now) (a .i) (c .before .before .before .before .pre .1) (c .before .before .before .before .pre .0)
     (bytes-all (a .tag .now) (λ i h. c .before .before .before .shared-slice-known .given i .fits)) (bytes-all (a .image .now) (λ i h. c .before .before .shared-slice-known2 .given i .fits))
 
 pub page-differs-spec : {M : Type 1} → statement M

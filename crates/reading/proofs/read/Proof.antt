@@ -1,5 +1,5 @@
 -- `reading::read` passes the refusal of looking on, or renders what was seen.
-use mathlib.Core.Path.{_≡_, ap, _∙_}
+use mathlib.Core.Path.{_≡_, refl, ap, _∙_}
 use Prim.Native.Nat.{_+_, _≤_}
 use mathlib.Core.Bool.{true}
 use native.Mathlib.Omega.{arith}
@@ -9,14 +9,14 @@ use Rattle.format.specs.Numbers.{numberOf}
 use Rattle.format.proofs.Tests.{bytes-all}
 use Rattle.look.specs.View.{lookGiven, Sighted}
 use Rattle.look.proofs.Judged.{looked-sighted, looked-refused}
-use Rattle.look.proofs.Laws.{Seen}
+use Rattle.look.proofs.Laws.{Seen, look-seen}
 use Rattle.reading.proofs.Reader.{refused-reads, sighted-made, sighted-inside, sighted-renderable, rendered-reads}
 use borrow.Author.Needs.{needs}
 use Rattle.reading.proofs.read.Statement.{statement}
 use Rattle.reading.proofs.read.Tie as tie
 
 look-at-requires : tie.Need-look-at-requires
-look-at-requires c κs = ?
+look-at-requires c κs = search needs
 
 enum-known-looked : tie.Need-enum-known-looked
 enum-known-looked c = search needs
@@ -50,7 +50,7 @@ sighted : (k : tie.After-looked) → let l = at-look k .look-at in
 sighted k = looked-sighted _ _ _ _ _ _ _ _ (at-look k .look-at .ensures) _ (k .looked .given .1)
 
 seen : (k : tie.After-looked) → Seen (at-start (at-look k) .args .tag .now) (replicate 19 0)
-seen k = ?
+seen k = look-seen _ _ (tag-bytes k) refl (sighted k .seen)
 
 inside : (k : tie.After-looked) → let b = k .looked .given .0 .0 .blocks in b .at + b .len ≤ length (at-start (at-look k) .args .tag .now)
 inside k = sighted-inside _ _ _ _ _ _ (tag-bytes k) (sighted k) (seen k)
@@ -73,7 +73,7 @@ part-render-end c = inside (c .before .before .before .before .before .before)
 render-requires : tie.Need-render-requires
 render-requires c κs =
     let k = c .before .before .before .before .before .before .before .before in
-    (sighted-renderable _ _ _ _ _ _ (tag-bytes k) (sighted k) (seen k), ?)
+    sighted-renderable _ _ _ _ _ _ (tag-bytes k) (sighted k) (seen k)
 
 same-length : tie.Need-same-length
 same-length c = search needs

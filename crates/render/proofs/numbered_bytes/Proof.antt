@@ -1,68 +1,50 @@
--- `render::numbered_bytes` meets its contract: the bytes of the elements are stored one behind the other.
-use mathlib.Core.Path.{refl, sym, ap}
-use mathlib.Core.List.{List, [], _∷_}
-use Prim.Native.Nat.{ℕ}
+-- `render::numbered_bytes` meets its contract: the bytes of the elements before place k are stored.
+use mathlib.Core.Path.{refl}
+use mathlib.Core.Logic.{⊎-elim}
+use Prim.Native.Nat.{_-_, _≤_, _<_}
 use native.Mathlib.Omega.{arith}
-use lib.ListN.{length}
-use Rattle.format.specs.Elements.{numbers}
-use Rattle.render.proofs.Several.{stored-all}
-use Rattle.render.proofs.Several.Stores.{none, more}
-use Rattle.render.proofs.Heads.{bodies-joined, sizes, length-joined}
+use mathlib.Core.List.{_++_}
 use borrow.Author.Needs.{needs}
+use lib.ListN.{length, drop, drop-of-length-le}
+use Rattle.format.specs.Bytes.{joined}
+use Rattle.format.proofs.Pieces.{stored-none}
+use Rattle.rows.specs.Rows.{slotsAt}
+use Rattle.render.proofs.Storing.{Storing, storing-start, storing-end, next-room, storing-next}
+use Rattle.render.proofs.Lengths.{row-turn}
 use Rattle.render.proofs.numbered_bytes.Statement.{statement}
 use Rattle.render.proofs.numbered_bytes.Tie as tie
 
-put-bytes-requires : tie.Need-put-bytes-requires
-put-bytes-requires c κs = search needs
+abbrev Inv-loop : tie.InvT-loop
+Inv-loop sheet₀ at tag made ats lens end₀ k₀ sheet end k =
+    (k ≤ 7) × Storing sheet₀ at (joined (slotsAt (tag ++ made) ats lens)) sheet (slotsAt (tag ++ made) (drop k ats) (drop k lens)) end
 
-put-bytes-requires-2 : tie.Need-put-bytes-requires-2
-put-bytes-requires-2 c κs = search needs
+abbrev μ-loop : tie.MeasureT-loop
+μ-loop sheet₀ at tag made ats lens end₀ k₀ sheet end k = 7 - k
 
-put-bytes-requires-3 : tie.Need-put-bytes-requires-3
-put-bytes-requires-3 c κs = search needs
+abbrev start : tie.In-loop Inv-loop μ-loop → tie.Start Inv-loop μ-loop
+start c = c .before .before .before .before .before
 
-put-bytes-requires-4 : tie.Need-put-bytes-requires-4
-put-bytes-requires-4 c κs = search needs
+-- a row has an element at place k
+here : (c : tie.In-loop Inv-loop μ-loop) → c .before .loop .k < length (start c .args .ats .now)
+here c = omega (arith, start c .pre .1)
 
-put-bytes-requires-5 : tie.Need-put-bytes-requires-5
-put-bytes-requires-5 c κs = search needs
+loop-again : tie.Need-loop-again Inv-loop μ-loop
+loop-again c =
+    let d = c .before .before in
+    let i = d .before .loop .inv .1 in
+    let turn = row-turn (d .before .loop .k) (start d .pre .0) (here d) .1 in
+    ⊎-elim (λ w. rw (w .7, w .8) (omega arith, storing-next i turn (rw (w .3 .ensures) at (w .4 .ensures))))
+    (λ w. rw (w .1, w .2) (omega arith, storing-next i (rw (w .0 .left) at turn) (stored-none _ _)))
+    (c .if1 .came)
 
-put-bytes-requires-6 : tie.Need-put-bytes-requires-6
-put-bytes-requires-6 c κs = search needs
-
-put-bytes-requires-7 : tie.Need-put-bytes-requires-7
-put-bytes-requires-7 c κs = search needs
-
-same-length : tie.Need-same-length
-same-length c = search needs
-
-returns : tie.Need-returns
-unfolding numbers sizes
-returns c =
-    let k7 = c .before .before in
-    let k6 = k7 .before .before .before .before in
-    let k5 = k6 .before .before .before .before in
-    let k4 = k5 .before .before .before .before in
-    let k3 = k4 .before .before .before .before in
-    let k2 = k3 .before .before .before .before in
-    let k1 = k2 .before .before .before .before in
-    let e = k1 .before .before .before .before .before .before .before .before .before .before in
-    let a = e .args in
-    let ss : List (List ℕ) = a .item .now ∷ a .isil .now ∷ a .set .now ∷ a .usage .now ∷ a .media .now ∷ a .second .now ∷ a .other .now ∷ [] in
-    let same = bodies-joined numbers ss refl in
-    stored-all (a .sheet .now) _ _ ss (a .at) _ (sym same) (omega (arith, e .pre, ap length same, length-joined ss))
-    (more (k1 .put-bytes .ensures) (more (k2 .put-bytes2 .ensures) (more (k3 .put-bytes3 .ensures) (more (k4 .put-bytes4 .ensures) (more (k5 .put-bytes5 .ensures) (more (k6 .put-bytes6 .ensures) (more (k7 .put-bytes7 .ensures) none)))))))
+returns : tie.Need-returns Inv-loop μ-loop
+unfolding slotsAt
+returns c = storing-end (c .before .loop .inv .1) (rw (drop-of-length-le (c .before .before .before .before .before .args .ats .now) {i = c .before .loop .k} (omega arith)))
 
 pub numbered-bytes-spec : {M : Type 1} → statement M
 numbered-bytes-spec =
     tie.close
-    (tie.spec
-    put-bytes-requires
-    put-bytes-requires-2
-    put-bytes-requires-3
-    put-bytes-requires-4
-    put-bytes-requires-5
-    put-bytes-requires-6
-    put-bytes-requires-7
-    same-length
-    returns)
+    (tie.spec Inv-loop μ-loop (λ c. (omega arith, storing-start _ refl (c .before .before .before .pre .2))) (λ c. search needs) (λ c. search needs) (λ c. search needs) (λ c. search needs)
+    (λ c κs. let d = c .before .before .before .before in row-turn (d .before .loop .k) (start d .pre .0) (here d) .0)
+    (λ c κs. let d = c .before .before .before .before .before in rw (c .piece .ensures) (next-room (d .before .loop .inv .1) (row-turn (d .before .loop .k) (start d .pre .0) (here d) .1)))
+    (λ c. search needs) (λ c. search needs) loop-again (λ c. c .before .loop .inv .1 .same) returns)

@@ -1,129 +1,59 @@
--- `render::numbered_heads` meets its contract: the heads of the elements are stored one behind the other.
-use mathlib.Core.Path.{sym}
-use mathlib.Core.List.{List, [], _∷_}
-use Prim.Native.Nat.{ℕ, _+_, _≤_}
+-- `render::numbered_heads` meets its contract: the heads of the elements before place k are stored, and `from` is the offset of the next.
+use mathlib.Core.Path.{refl}
+use mathlib.Core.Logic.{⊎-elim}
+use Prim.Native.Nat.{ℕ, _+_, _-_, _*_, _≤_, _<_}
 use native.Mathlib.Omega.{arith}
-use lib.ListN.{length}
-use Rattle.format.specs.Elements.{numbers}
-use Rattle.format.specs.Sheet.{heads}
-use Rattle.render.specs.Rendering.{numbered}
-use Rattle.format.proofs.Pieces.{stored-length}
-use Rattle.render.proofs.Several.{stored-all}
-use Rattle.render.proofs.Several.Stores.{none, more}
-use Rattle.render.proofs.Heads.{headsAt, heads-joined, countAt, heads-size}
+use mathlib.Core.List.{List}
 use borrow.Author.Needs.{needs}
+use lib.ListN.{length, getD, drop, drop-of-length-le}
+use Rattle.format.specs.Bytes.{joined, le16}
+use Rattle.format.specs.Elements.{numbers}
+use Rattle.format.proofs.Tests.{bytes-at}
+use Rattle.format.proofs.Pieces.{stored-none}
+use Rattle.render.specs.Rendering.{headsBy}
+use Rattle.render.proofs.Storing.{Storing, storing-start, storing-end, next-room, storing-next}
+use Rattle.render.proofs.Lengths.{heads-some, heads-none}
 use Rattle.render.proofs.numbered_heads.Statement.{statement}
 use Rattle.render.proofs.numbered_heads.Tie as tie
 
--- the function's entry, seen from behind each head
-abbrev from1 : tie.After-put-head → tie.Start
-from1 k = k .before .before .before .before .before .before .before .before .before .before
+abbrev Inv-loop : tie.InvT-loop
+Inv-loop sheet₀ offset lens at₀ from₀ k₀ sheet at from k =
+    (k ≤ 7) × (from ≤ 65535 + 255 * k) × Storing sheet₀ 2 (joined (headsBy offset numbers lens)) sheet (headsBy from (drop k numbers) (drop k lens)) at
 
-abbrev from2 : tie.After-put-head2 → tie.Start
-from2 k = from1 (k .before .before .before .before)
+abbrev μ-loop : tie.MeasureT-loop
+μ-loop sheet₀ offset lens at₀ from₀ k₀ sheet at from k = 7 - k
 
-abbrev from3 : tie.After-put-head3 → tie.Start
-from3 k = from2 (k .before .before .before .before)
+abbrev lens : tie.In-loop Inv-loop μ-loop → List ℕ
+lens c = c .before .before .before .args .lens .now
 
-abbrev from4 : tie.After-put-head4 → tie.Start
-from4 k = from3 (k .before .before .before .before)
+-- a row has an element at place k, of at most 255 bytes
+here : (c : tie.In-loop Inv-loop μ-loop) → (c .before .loop .k < length (lens c)) × (getD (lens c) (c .before .loop .k) 0 ≤ 255)
+here c = let p = c .before .before .before .pre .1 in (omega (arith, p .seven), bytes-at (c .before .loop .k) (lens c) (p .small))
 
-abbrev from5 : tie.After-put-head5 → tie.Start
-from5 k = from4 (k .before .before .before .before)
+put-head-requires : tie.Need-put-head-requires Inv-loop μ-loop
+unfolding numbers le16
+put-head-requires c κs =
+    let d = c .before .before .before .before in
+    let l = d .before .loop in
+    (here d .1, next-room (l .inv .2) (heads-some (l .from) numbers (lens d) (l .k) (d .loop-test .taken) (here d .0) (c .before .before .if1 .taken)))
 
-abbrev from6 : tie.After-put-head6 → tie.Start
-from6 k = from5 (k .before .before .before .before)
+loop-again : tie.Need-loop-again Inv-loop μ-loop
+unfolding numbers
+loop-again c =
+    let d = c .before .before in
+    let l = d .before .loop in
+    let h = here d in
+    ⊎-elim
+    (λ w. rw (w .6, w .7, w .8) (omega arith, omega arith, storing-next (l .inv .2) (heads-some (l .from) numbers (lens d) (l .k) (d .loop-test .taken) (h .0) (w .0 .taken)) (rw (w .2 .ensures) at (w .3 .ensures))))
+    (λ w. rw (w .1, w .2, w .3) (omega arith, omega arith, storing-next (l .inv .2) (heads-none (l .from) numbers (lens d) (l .k) (d .loop-test .taken) (h .0) (w .0 .left)) (stored-none _ _)))
+    (c .if1 .came)
 
-abbrev from7 : tie.After-put-head7 → tie.Start
-from7 k = from6 (k .before .before .before .before)
-
-add-from3 : tie.Need-add-from3
-add-from3 c = search needs
-
-add-from4 : tie.Need-add-from4
-add-from4 c = search needs
-
-add-from5 : tie.Need-add-from5
-add-from5 c = search needs
-
-add-from19 : tie.Need-add-from19
-add-from19 c = search needs
-
-add-from22 : tie.Need-add-from22
-add-from22 c = search needs
-
-add-from23 : tie.Need-add-from23
-add-from23 c = search needs
-
-put-head-requires : tie.Need-put-head-requires
-put-head-requires c κs = search needs
-
-put-head-requires-2 : tie.Need-put-head-requires-2
-put-head-requires-2 c κs = search needs
-
-put-head-requires-3 : tie.Need-put-head-requires-3
-put-head-requires-3 c κs = search needs
-
-put-head-requires-4 : tie.Need-put-head-requires-4
-put-head-requires-4 c κs = search needs
-
-put-head-requires-5 : tie.Need-put-head-requires-5
-put-head-requires-5 c κs = search needs
-
-put-head-requires-6 : tie.Need-put-head-requires-6
-put-head-requires-6 c κs = omega (arith, from5 (c .before .before .before) .pre)
-
-put-head-requires-7 : tie.Need-put-head-requires-7
-put-head-requires-7 c κs = omega (arith, from6 (c .before .before .before) .pre)
-
--- the heads of the elements
-abbrev piece : tie.Start → List ℕ
-piece e =
-    let a = e .args in
-    heads (a .offset) (numbered (a .item .now) (a .isil .now) (a .set .now) (a .usage .now) (a .media .now) (a .second .now) (a .other .now))
-
--- they have room
-room : (e : tie.Start) → 2 + length (piece e) ≤ length (e .args .sheet .now)
-unfolding numbers countAt
-room e = let a = e .args in omega (arith, e .pre, heads-size (a .offset) numbers (a .item .now ∷ a .isil .now ∷ a .set .now ∷ a .usage .now ∷ a .media .now ∷ a .second .now ∷ a .other .now ∷ []))
-
-returns : tie.Need-returns
-unfolding numbers headsAt
-returns c =
-    let k7 = c .before .before in
-    let k6 = k7 .before .before .before .before in
-    let k5 = k6 .before .before .before .before in
-    let k4 = k5 .before .before .before .before in
-    let k3 = k4 .before .before .before .before in
-    let k2 = k3 .before .before .before .before in
-    let k1 = k2 .before .before .before .before in
-    let e = from1 k1 in
-    let a = e .args in
-    let ss : List (List ℕ) = a .item .now ∷ a .isil .now ∷ a .set .now ∷ a .usage .now ∷ a .media .now ∷ a .second .now ∷ a .other .now ∷ [] in
-    stored-all (a .sheet .now) _ _ (headsAt (a .offset) numbers ss) 2 _ (sym (heads-joined (a .offset) numbers ss)) (room e)
-    (more (k1 .put-head .ensures .1) (more (k2 .put-head2 .ensures .1) (more (k3 .put-head3 .ensures .1) (more (k4 .put-head4 .ensures .1) (more (k5 .put-head5 .ensures .1) (more (k6 .put-head6 .ensures .1) (more (k7 .put-head7 .ensures .1) none)))))))
-
-same-length : tie.Need-same-length
-same-length c =
-    let e = from7 (c .before .before) in
-    stored-length (e .args .sheet .now) (piece e) _ 2 _ (room e) (returns c)
+returns : tie.Need-returns Inv-loop μ-loop
+unfolding numbers headsBy
+returns c = storing-end (c .before .loop .inv .2) (rw (drop-of-length-le numbers {i = c .before .loop .k} (c .loop-test .left)))
 
 pub numbered-heads-spec : {M : Type 1} → statement M
 numbered-heads-spec =
     tie.close
-    (tie.spec
-    add-from3
-    add-from4
-    add-from5
-    add-from19
-    add-from22
-    add-from23
-    put-head-requires
-    put-head-requires-2
-    put-head-requires-3
-    put-head-requires-4
-    put-head-requires-5
-    put-head-requires-6
-    put-head-requires-7
-    same-length
-    returns)
+    (tie.spec Inv-loop μ-loop (λ c. (omega arith, omega arith, storing-start _ refl (c .before .pre .2))) (λ c. search needs) (λ c. search needs) (λ c κs. search needs) put-head-requires
+    (λ c. omega (arith, here (c .before .before .before .before .before .before .before))) (λ c. search needs) (λ c. search needs) loop-again (λ c. c .before .loop .inv .2 .same) returns)

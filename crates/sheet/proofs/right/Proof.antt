@@ -1,9 +1,11 @@
 -- The invariant: the heads that come decide whether the sheet is right. The measure is how many come.
+use mathlib.Core.Logic.{⊎-elim}
 use Prim.Native.Nat.{_-_}
 use native.Mathlib.Omega.{arith}
 use borrow.Author.Needs.{needs}
+use borrow.Author.Tests.{eq-eqb, ne-eqb}
 use Rattle.format.proofs.Tests.{bytes-all}
-use Rattle.sheet.proofs.Heads.{short-wrong}
+use Rattle.sheet.proofs.Heads.{least, short-wrong}
 use Rattle.sheet.proofs.Walking.{Checking, checking-start, checking-low, checking-offset, checking-on, checking-end}
 use Rattle.sheet.proofs.right.Statement.{statement}
 use Rattle.sheet.proofs.right.Tie as tie
@@ -32,32 +34,26 @@ returns-2 c = short-wrong (c .before .before .before .before .args .sheet .now) 
 loop-holds : tie.Need-loop-holds Inv-loop μ-loop
 loop-holds c =
     let s = c .before .before .before .before .args .sheet .now in
-    let e = c .before .count .ensures .0 in
-    rw e (checking-start s (bytes-all s (λ i h. c .before .before .before .shared-slice-known .given i .fits)) (omega arith))
+    rw (c .before .count .ensures .0) (checking-start s (bytes-all s (λ i h. c .before .before .before .shared-slice-known .given i .fits)) (omega arith))
 
 head-at-requires : tie.Need-head-at-requires Inv-loop μ-loop
-head-at-requires c κs = omega arith
+head-at-requires c κs = search needs
 
 returns-3 : tie.Need-returns-3 Inv-loop μ-loop
 returns-3 c =
     let h = c .before .before in
-    let l = h .before .before .loop in
-    let s = h .before .before .before .before .before .before .before .args .sheet .now in
-    checking-low s (l .at) (l .least) (l .i) (h .head-at .result) (l .inv) (omega arith) (h .head-at .ensures) (c .if3 .taken)
+    checking-low (h .before .before .loop .inv) (omega arith) (h .head-at .ensures) (c .if3 .taken)
 
 returns-4 : tie.Need-returns-4 Inv-loop μ-loop
 returns-4 c =
     let h = c .before .before .before .before in
-    let l = h .before .before .loop in
-    let s = h .before .before .before .before .before .before .before .args .sheet .now in
-    checking-offset s (l .at) (l .least) (l .i) (h .head-at .result) (l .inv) (omega arith) (h .head-at .ensures) (c .before .before .if3 .left)
-    (c .if4 .taken)
+    checking-offset (h .before .before .loop .inv) (omega arith) (h .head-at .ensures) (c .if4 .taken)
 
 add-at-2 : tie.Need-add-at-2 Inv-loop μ-loop
-add-at-2 c = omega arith
+add-at-2 c = search needs
 
-least-after-requires : tie.Need-least-after-requires Inv-loop μ-loop
-least-after-requires c κs = search needs
+add-least : tie.Need-add-least Inv-loop μ-loop
+add-least c = search needs
 
 add-i : tie.Need-add-i Inv-loop μ-loop
 add-i c = search needs
@@ -66,20 +62,15 @@ loop-less : tie.Need-loop-less Inv-loop μ-loop
 loop-less c = search needs
 
 loop-again : tie.Need-loop-again Inv-loop μ-loop
+unfolding least
 loop-again c =
-    let t = c .before .before in
-    let h = t .before .before .before .before in
-    let l = h .before .before .loop in
-    let s = h .before .before .before .before .before .before .before .args .sheet .now in
-    rw (c .least-after .ensures)
-    (checking-on s (l .at) (l .least) (l .i) (h .head-at .result) (l .inv) (omega arith) (h .head-at .ensures) (t .before .before .if3 .left)
-    (t .if4 .left))
+    let o = c .before .before .before in
+    let h = o .before .before .before .before in
+    let on = checking-on (h .before .before .loop .inv) (omega arith) (h .head-at .ensures) (o .before .before .if3 .left) (o .if4 .left) in
+    ⊎-elim (λ w. rw (w .1) (rw (eq-eqb _ 255 (w .0 .taken)) at on)) (λ w. rw (w .2) (rw (ne-eqb _ 255 (w .0 .left)) at on)) (c .if5 .came)
 
 returns-5 : tie.Need-returns-5 Inv-loop μ-loop
-returns-5 c =
-    let l = c .before .loop in
-    let s = c .before .before .before .before .before .before .args .sheet .now in
-    checking-end s (l .at) (l .least) (l .i) (l .inv) (omega arith)
+returns-5 c = checking-end (c .before .loop .inv) (omega arith)
 
 pub right-spec : {M : Type 1} → statement M
 right-spec =
@@ -97,7 +88,7 @@ right-spec =
     returns-3
     returns-4
     add-at-2
-    least-after-requires
+    add-least
     add-i
     loop-less
     loop-again

@@ -1,24 +1,51 @@
--- The steps in order: 8 where the sheet is wrong, 9 where a value is, else the places.
+-- The steps in order: 8 where the sheet is wrong, 9 where a value is, else the row and where the carried blocks begin.
 use mathlib.Core.Path.{_≡_, sym, ap, _∙_}
+use Prim.Native.Nat.{ℕ}
 use native.Mathlib.Omega.{arith}
-use mathlib.Core.Bool.{true}
-use lib.ListN.{length}
+use mathlib.Core.Bool.{true, false}
+use mathlib.Core.List.{List}
 use borrow.Author.Needs.{needs}
 use borrow.Author.Tests.{not-true, not-false}
-use Rattle.format.specs.Answers.{got}
-use Rattle.format.specs.Bytes.{all}
-use Rattle.format.specs.Sheet.{entriesIn, rightSheet, find, formed}
-use Rattle.sheet.specs.Scanning.{placeOf, placesIn}
-use Rattle.sheet.proofs.Heads.{right-body}
-use Rattle.sheet.proofs.Answering.{scan-wrong, scan-bad, scan-got, unformed-bad, no-set-bad, no-usage-bad, all-good}
+use Rattle.format.specs.Answers.{plain, got, refused}
+use Rattle.format.specs.Sheet.{entriesIn, rightSheet, goodValues}
+use Rattle.format.specs.declared.NumberAnswer.the-variants.{Done, Refused}
+use Rattle.format.proofs.Answers.{next-ok, next-no, none-ok, afterwards-got, afterwards-refused}
+use Rattle.sheet.specs.Scanning.{carriedAt, atsIn, lensIn, scanning, Scanned}
+use Rattle.sheet.proofs.Heads.{right-body, right-of}
 use Rattle.sheet.proofs.scan.Statement.{statement}
 use Rattle.sheet.proofs.scan.Tie as tie
+
+module _ (s ats lens : List ℕ) where
+  stopped : (k : ℕ) → scanning s ≡ refused (plain k) → Scanned s ats lens (Refused k) ats lens
+  stopped k e = record { answered = sym e; ats-left = sym (afterwards-refused _ (plain k) (atsIn s) ats e); lens-left = sym (afterwards-refused _ (plain k) (lensIn s) lens e) }
+
+  wrong : rightSheet s ≡ false → Scanned s ats lens (Refused 8) ats lens
+  unfolding scanning
+  wrong e = stopped 8 (next-no 8 (rightSheet s) _ (carriedAt s) e)
+
+  bad : rightSheet s ≡ true → goodValues (entriesIn s) ≡ false → Scanned s ats lens (Refused 9) ats lens
+  unfolding scanning
+  bad e g = stopped 9 (next-ok 8 (rightSheet s) _ (carriedAt s) e ∙ next-no 9 (goodValues (entriesIn s)) _ (carriedAt s) g)
+
+  good : rightSheet s ≡ true → goodValues (entriesIn s) ≡ true → (at : ℕ) (ats′ lens′ : List ℕ) → (at ≡ carriedAt s) × (ats′ ≡ atsIn s) × (lens′ ≡ lensIn s)
+      → Scanned s ats lens (Done at) ats′ lens′
+  unfolding scanning
+  good e g at ats′ lens′ f =
+      let is : scanning s ≡ got (carriedAt s) =
+      next-ok 8 (rightSheet s) _ (carriedAt s) e ∙ next-ok 9 (goodValues (entriesIn s)) _ (carriedAt s) g ∙ none-ok (carriedAt s) in
+      record {
+        answered = ap got (f .0) ∙ sym is;
+        ats-left = f .1 ∙ sym (afterwards-got _ (carriedAt s) (atsIn s) ats is);
+        lens-left = f .2 ∙ sym (afterwards-got _ (carriedAt s) (lensIn s) lens is);
+      }
 
 right-requires : tie.Need-right-requires
 right-requires c κs = search needs
 
 returns : tie.Need-returns
-returns c = scan-wrong (c .before .before .before .args .sheet .now) (sym (c .before .right .ensures) ∙ not-true _ (c .if1 .taken))
+returns c =
+    let a = c .before .before .before .args in
+    wrong (a .sheet .now) (a .ats .now) (a .lens .now) (sym (c .before .right .ensures) ∙ not-true _ (c .if1 .taken))
 
 -- past the first test the sheet is right
 is-right : (c : tie.Else1) → rightSheet (c .before .before .before .args .sheet .now) ≡ true
@@ -27,51 +54,26 @@ is-right c = sym (c .before .right .ensures) ∙ not-false _ (c .if1 .left)
 count-requires : tie.Need-count-requires
 count-requires c κs = omega (arith, right-body (c .before .before .before .args .sheet .now) (is-right c))
 
-all-formed-requires : tie.Need-all-formed-requires
-all-formed-requires c κs = record { right = is-right (c .before); counted = c .count .ensures .0 }
+good-values-requires : tie.Need-good-values-requires
+good-values-requires c κs = right-of (c .before .before .before .before .args .sheet .now) (c .count .result) (is-right (c .before)) (c .count .ensures .0)
 
 returns-2 : tie.Need-returns-2
 returns-2 c =
     let r = c .before .before .before in
-    scan-bad (r .before .before .before .args .sheet .now) (is-right r) (unformed-bad _ (sym (c .before .all-formed .ensures) ∙ not-true _ (c .if2 .taken)))
+    let a = r .before .before .before .args in
+    bad (a .sheet .now) (a .ats .now) (a .lens .now) (is-right r) (sym (c .before .good-values .ensures) ∙ not-true _ (c .if2 .taken))
 
--- past the second each entry is formed
-are-formed : (c : tie.Else2) → all formed (entriesIn (c .before .before .before .before .before .before .args .sheet .now)) ≡ true
-are-formed c = sym (c .before .all-formed .ensures) ∙ not-false _ (c .if2 .left)
-
-places-in-requires : tie.Need-places-in-requires
-places-in-requires c κs = record { right = is-right (c .before .before .before); counted = c .before .before .count .ensures .0 }
-
--- how long 4 and 5 are
-lengths : (c : tie.After-places-in)
-    → let es = entriesIn (c .before .before .before .before .before .before .before .args .sheet .now) in
-    (c .places-in .result .set .len ≡ length (find 4 es)) × (c .places-in .result .usage .len ≡ length (find 5 es))
-unfolding placesIn placeOf
-lengths c = (ap (λ p. p .set .len) (c .places-in .ensures), ap (λ p. p .usage .len) (c .places-in .ensures))
+fill-row-requires : tie.Need-fill-row-requires
+fill-row-requires c κs =
+    let n = c .before .before .before .before in
+    (right-of (n .before .before .before .before .args .sheet .now) (n .count .result) (is-right (n .before)) (n .count .ensures .0), search needs, search needs)
 
 returns-3 : tie.Need-returns-3
 returns-3 c =
-    let p = c .before .before in
-    let f = p .before in
-    let r = f .before .before .before in
-    scan-bad (r .before .before .before .args .sheet .now) (is-right r) (no-set-bad _ (are-formed f) (sym (lengths p .0) ∙ c .if3 .taken))
-
-returns-4 : tie.Need-returns-4
-returns-4 c =
-    let p = c .before .before .before .before in
-    let f = p .before in
-    let r = f .before .before .before in
-    scan-bad (r .before .before .before .args .sheet .now) (is-right r)
-    (no-usage-bad _ (are-formed f) (λ e. c .before .before .if3 .left (lengths p .0 ∙ e)) (sym (lengths p .1) ∙ c .if4 .taken))
-
-returns-5 : tie.Need-returns-5
-returns-5 c =
-    let p = c .before .before .before .before in
-    let f = p .before in
-    let r = f .before .before .before in
-    ap got (p .places-in .ensures)
-    ∙ scan-got (r .before .before .before .args .sheet .now) (is-right r)
-    (all-good _ (are-formed f) (λ e. c .before .before .if3 .left (lengths p .0 ∙ e)) (λ e. c .if4 .left (lengths p .1 ∙ e)))
+    let v = c .before .before .before in
+    let r = v .before .before .before in
+    let a = r .before .before .before .args in
+    good (a .sheet .now) (a .ats .now) (a .lens .now) (is-right r) (sym (v .before .good-values .ensures) ∙ not-false _ (v .if2 .left)) _ _ _ (c .fill-row .ensures)
 
 pub scan-spec : {M : Type 1} → statement M
 scan-spec =
@@ -80,9 +82,7 @@ scan-spec =
     right-requires
     returns
     count-requires
-    all-formed-requires
+    good-values-requires
     returns-2
-    places-in-requires
-    returns-3
-    returns-4
-    returns-5)
+    fill-row-requires
+    returns-3)

@@ -3,7 +3,7 @@ use mathlib.Core.Path.{_≡_, sym, ap, _∙_}
 use Prim.Native.Nat.{_≤_}
 use lib.ListN.{length}
 use Rattle.format.specs.Numbers.{numberOf, stageGiven}
-use Rattle.sheet.proofs.Laws.{Found}
+use Rattle.sheet.proofs.Laws.{Found, scan-found}
 use Rattle.writing.proofs.Writer.{Good, scanned-good, scanned-refused, carried-inside, good-draftable, drafted-refused, locked-refused, stored-writes}
 use borrow.Author.Needs.{needs}
 use Rattle.writing.proofs.write_on.Statement.{statement}
@@ -14,7 +14,7 @@ abbrev at-start : tie.After-scan → tie.Start
 at-start k = k .before .before .before .before .before .before .before
 
 scan-requires : tie.Need-scan-requires
-scan-requires c κs = ?
+scan-requires c κs = search needs
 
 enum-told : tie.Need-enum-told
 enum-told c = search needs
@@ -35,7 +35,7 @@ good : (k : tie.After-scanned) → let l = at-scan k .scan .last in Good (at-sta
 good k = scanned-good _ _ _ _ _ _ (at-scan k .scan .ensures) _ (k .scanned .given .1)
 
 found : (k : tie.After-scanned) → Found (at-start (at-scan k) .args .sheet .now)
-found k = ?
+found k = scan-found _ (good k .right) (good k .values)
 
 sub-draft : tie.Need-sub-draft
 sub-draft c = search needs
@@ -61,7 +61,7 @@ part-draft-end-2 c = search needs
 draft-requires : tie.Need-draft-requires
 draft-requires c κs =
     let k = c .before .before .before .before .before .before in
-    (good-draftable _ _ _ _ _ _ _ (at-start (at-scan k) .pre) (good k) (found k), ?)
+    good-draftable _ _ _ _ _ _ _ (at-start (at-scan k) .pre) (good k) (found k)
 
 enum-told-2 : tie.Need-enum-told-2
 enum-told-2 c = search needs
@@ -84,7 +84,7 @@ returns-2 c =
     drafted-refused _ _ _ _ _ _ _ (at-start (at-scan k) .pre) (good k) (found k) _ _ (d .draft .ensures) _ _ told (c .stage-number .ensures ∙ ap numberOf told)
 
 seal-requires : tie.Need-seal-requires
-seal-requires c κs = ?
+seal-requires c κs = search needs
 
 lock-stage-requires : tie.Need-lock-stage-requires
 lock-stage-requires c κs = search needs

@@ -1,0 +1,121 @@
+-- What looking at a tag tells its callers.
+use mathlib.Core.Path.{_≡_, refl, sym, ap, _∙_}
+use Prim.Native.Nat.{ℕ, _+_, _≤_}
+use native.Mathlib.Omega.{arith}
+use mathlib.Core.Bool.{Bool, true, false, not, _&&_}
+use mathlib.Core.List.{List, [], _++_, append-nil}
+use lib.ListN.{length, drop}
+use lib.Dec.{eqb}
+use borrow.Author.Tests.{eqb-true, eqb-false, ne-eqb}
+use Rattle.format.specs.declared.Part.{Part}
+use Rattle.format.specs.Answers.{got, refused, plain, Step, inOrder}
+use Rattle.format.specs.Bytes.{if_then_else_, part, bytes, joined, filled}
+use Rattle.format.specs.Pages.{pageSize, goodSize}
+use Rattle.format.specs.Pieces.{Held}
+use Rattle.format.specs.Chain.{libraryBlock, otherBlocks}
+use Rattle.format.specs.Reading.{blocksIn, contentIn, tagSteps, Readable}
+use Rattle.format.specs.Calls.{ownLayout}
+use Rattle.format.proofs.Tests.{never, and-l, and-r, not-t, not-f}
+use Rattle.format.proofs.Answers.{next-inv, refused-with, works, worked}
+use Rattle.format.proofs.Readable.{on-readable}
+use Rattle.format.proofs.Strings.{nil-of}
+use Rattle.rows.specs.Rows.{slotsAt, Row}
+use Rattle.chain.specs.Survey.{endAt, surveyed, surveyOf}
+use Rattle.chain.proofs.Laws.{Surveyed, survey-whole}
+use Rattle.chain.proofs.Piece.{OnePiece, in-one-piece, own-piece}
+use Rattle.look.specs.declared.View.{View}
+use Rattle.look.specs.declared.Look.{Look}
+use Rattle.look.specs.declared.Look.the-variants as look
+use Rattle.look.specs.Row.{from, nowhere, pieceBy}
+use Rattle.look.specs.Looking.{itemOn, ownerPartsOn, libraryPartsOn, FieldsOf}
+use Rattle.look.specs.View.{blockIn, atsIn, lensIn, madeIn, viewIn, lookSteps, judged, lookGiven, looking}
+use Rattle.look.proofs.Standing.{holds-row, holds-slots}
+use Rattle.look.proofs.Steps.{size-passed}
+use Rattle.look.proofs.Judged.{seen-size, seen-readable}
+use Rattle.look.proofs.Elements.{made-length, elements-lie}
+
+-- ---- the carried blocks
+
+-- the part p is the carried blocks, one behind the other, where it is as long as they; in the writer's own layout it is
+record Pieced (t : List ℕ) (size : ℕ) (p : Part) : Type 0 where
+  inside : p .at + p .len ≤ length t
+  is : p .len ≡ size → part (p .at) (p .len) t ≡ joined (otherBlocks (blocksIn t))
+  own : ownLayout t ≡ true → p .len ≡ size
+
+module _ (t : List ℕ) (l n c z d : ℕ) (v : Surveyed t l n c z d) where
+  -- no bytes, where there are no blocks or the tag is not the writer's own layout
+  no-piece : (ownLayout t ≡ true → 0 ≡ z) → Pieced t z nowhere
+  no-piece own = record {
+    inside = omega arith;
+    is = λ e. sym (nil-of (joined (otherBlocks (blocksIn t))) (omega (arith, v .size, e)));
+    own = own;
+  }
+
+  pieced : goodSize pageSize (length t) ≡ true → Pieced t z (pieceBy l n z d)
+  unfolding pieceBy
+  pieced g = go (eqb z 0) refl (not (eqb n 0) && not (eqb l 34)) refl (not (eqb (34 + n + z) d)) refl
+    where
+      one : ownLayout t ≡ true → OnePiece l n z d
+      one o = own-piece t l n c z d v pageSize g o
+
+      go : (w : Bool) → eqb z 0 ≡ w → (x : Bool) → not (eqb n 0) && not (eqb l 34) ≡ x → (y : Bool) → not (eqb (34 + n + z) d) ≡ y
+          → Pieced t z (if w then nowhere else if x then nowhere else if y then nowhere else from (34 + n) z)
+      go true ew x ex y ey = no-piece (λ o. sym (eqb-true z 0 ew))
+      go false ew true ex y ey =
+          let some : eqb n 0 ≡ false = not-t (eqb n 0) (and-l (not (eqb n 0)) (not (eqb l 34)) ex) in
+          let away : eqb l 34 ≡ false = not-t (eqb l 34) (and-r (not (eqb n 0)) (not (eqb l 34)) ex) in
+          no-piece (λ o. absurd (eqb-false l 34 away (one o .first (eqb-false n 0 some))))
+      go false ew false ex true ey = no-piece (λ o. absurd (eqb-false (34 + n + z) d (not-t (eqb (34 + n + z) d) ey) (one o .full)))
+      go false ew false ex false ey =
+          let p : OnePiece l n z d = record { first = λ h. first h (eqb l 34) refl; full = eqb-true (34 + n + z) d (not-f (eqb (34 + n + z) d) ey) } in
+          record { inside = omega (arith, v .room, eqb-false z 0 ew); is = λ e. in-one-piece t l n c z d v p; own = λ o. refl }
+        where
+          first : (n ≡ 0 → ⊥) → (y : Bool) → eqb l 34 ≡ y → l ≡ 34
+          first h true e = eqb-true l 34 e
+          first h false e =
+              let b : not (eqb n 0) && not (eqb l 34) ≡ true = rw (ne-eqb n 0 h, e) in
+              let z : true ≡ false = sym b ∙ ex in
+              never (cc)
+
+-- ---- what a readable tag holds, as looking finds it; `made` is the buffer that was lent
+
+pub record Seen (t made : List ℕ) : Type 0 where
+  pub row : Row t (filled (madeIn t) made) (atsIn t) (lensIn t)
+  pub slots : slotsAt (t ++ filled (madeIn t) made) (atsIn t) (lensIn t) ≡ contentIn t .slots
+  pub made-length : length (filled (madeIn t) made) ≡ 19
+  pub count : viewIn t .count ≡ length (contentIn t .carried)
+  pub size : viewIn t .size ≡ length (joined (contentIn t .carried))
+  -- where `blocks` is as long as the carried blocks together, it is they, one behind the other; in the writer's own layout it is
+  pub blocks-inside : viewIn t .blocks .at + viewIn t .blocks .len ≤ length t
+  pub blocks : viewIn t .blocks .len ≡ viewIn t .size → part (viewIn t .blocks .at) (viewIn t .blocks .len) t ≡ joined (contentIn t .carried)
+  pub own : ownLayout t ≡ true → viewIn t .blocks .len ≡ viewIn t .size
+
+module _ (t made : List ℕ) (y : bytes t ≡ true) (long : length made ≡ 19) (g : goodSize pageSize (length t) ≡ true) (r : Readable t) where
+  survey : Surveyed t (blockIn t) (length (libraryBlock (blocksIn t))) (length (otherBlocks (blocksIn t))) (length (joined (otherBlocks (blocksIn t)))) (endAt (length (drop 34 t)) 34 (drop 34 t))
+  unfolding surveyOf surveyed
+  survey = survey-whole t _ _ _ _ _ (ap (surveyed (blockIn t) (endAt (length (drop 34 t)) 34 (drop 34 t))) (r .blocks))
+
+  block : Held t (from (blockIn t) (length (libraryBlock (blocksIn t)))) (libraryBlock (blocksIn t))
+  block = record { inside = survey .inside; is = survey .library }
+
+  fields : FieldsOf t (itemOn t) (ownerPartsOn t) (libraryPartsOn t)
+  fields = record { sized = size-passed t g; good = r .fields; item = refl; owner = refl; library = refl }
+
+  seen : Seen t made
+  unfolding viewIn contentIn
+  seen =
+      let h = elements-lie t (from (blockIn t) _) block _ _ _ fields made long (r .agreed) y in
+      let p = pieced t _ _ _ _ _ survey g in
+      record {
+        row = holds-row t (filled (madeIn t) made) _ _ h;
+        slots = holds-slots t (filled (madeIn t) made) _ _ h;
+        made-length = made-length t (from (blockIn t) _) block _ _ _ fields made long (r .agreed);
+        count = refl;
+        size = refl;
+        blocks-inside = p .inside;
+        blocks = p .is;
+        own = p .own;
+      }
+
+pub look-seen : (t made : List ℕ) → bytes t ≡ true → length made ≡ 19 → judged t ≡ got tt → Seen t made
+look-seen t made y long j = seen t made y long (seen-size t j) (seen-readable t j)

@@ -1,0 +1,37 @@
+-- The tests are the definition's.
+use mathlib.Core.Path.{_≡_, refl}
+use mathlib.Core.Logic.{⊎-elim}
+use Prim.Native.Nat.{ℕ}
+use mathlib.Core.Bool.{false, not, _&&_}
+use lib.Dec.{eqb}
+use borrow.Author.Needs.{needs}
+use borrow.Author.Tests.{eq-eqb, ne-eqb}
+use Rattle.format.proofs.Tests.{and-no}
+use Rattle.look.specs.Row.{pieceBy}
+use Rattle.look.proofs.row.one_piece.Statement.{statement}
+use Rattle.look.proofs.row.one_piece.Tie as tie
+
+-- block 1 is the first block, or there is none
+first : (c : tie.Joined2) → let a = c .before .before .args in not (eqb (a .length) 0) && not (eqb (a .library) 34) ≡ false
+first c =
+    let n : ℕ = c .before .before .args .length in
+    ⊎-elim (λ w. and-no (not (eqb n 0)) _ (w .1 .left)) (λ w. rw (w .left)) (c .if2 .came)
+
+returns : tie.Need-returns
+unfolding pieceBy
+returns c = rw (eq-eqb _ 0 (c .if1 .taken)) refl
+
+returns-2 : tie.Need-returns-2
+unfolding pieceBy
+returns-2 c = rw (ne-eqb _ 0 (c .before .before .if1 .left), ne-eqb _ 0 (c .before .if2 .taken), c .if3 .taken) refl
+
+returns-3 : tie.Need-returns-3
+unfolding pieceBy
+returns-3 c = rw (ne-eqb _ 0 (c .before .before .if1 .left), first (c .before), ne-eqb _ _ (c .if4 .taken)) refl
+
+returns-4 : tie.Need-returns-4
+unfolding pieceBy
+returns-4 c = rw (ne-eqb _ 0 (c .before .before .if1 .left), first (c .before), eq-eqb _ _ (c .if4 .left)) refl
+
+pub one-piece-spec : {M : Type 1} → statement M
+one-piece-spec = tie.close (tie.spec returns returns-2 (λ c. search needs) (λ c. search needs) returns-3 (λ c. search needs) returns-4)
