@@ -3,10 +3,10 @@ use mathlib.Core.Path.{_≡_, refl, sym, ap, ap₂, _∙_}
 use Prim.Native.Nat.{ℕ, _+_, _-_, _%_, _≤_}
 use native.Mathlib.Omega.{arith}
 use mathlib.Core.Bool.{true}
-use mathlib.Core.List.{List, [], _∷_, _++_}
+use mathlib.Core.List.{List, _++_}
 use lib.Dec.{eqb}
 use lib.ListN.{length, getD, take, drop, set, replicate, length-append, length-drop, length-replicate}
-use lib.Seq.{take-length, take-at, length-take-le}
+use lib.Seq.{take-length, take-at}
 use Rattle.format.specs.Answers.{got, refused, plain, need, inOrder}
 use Rattle.format.specs.Bytes.{bytes, part, joined, filled}
 use Rattle.format.specs.Pages.{pageSize, goodSize, lockMap, changed, lockedChanged}
@@ -27,7 +27,7 @@ use Rattle.format.proofs.Laying.{drafted-fits}
 use Rattle.strings.proofs.Clearing.{front-zeros}
 use Rattle.rows.specs.Rows.{slotsAt, Stands}
 use Rattle.look.specs.declared.View.{View}
-use Rattle.look.specs.View.{atsIn, lensIn, madeIn, Sighted}
+use Rattle.look.specs.View.{madeIn, Sighted}
 use Rattle.look.proofs.Judged.{seen-most}
 use Rattle.look.proofs.Laws.{Seen}
 use Rattle.image.specs.Drafting.{sealing, unsealed, drafting, Draftable, Drafted}

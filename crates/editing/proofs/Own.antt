@@ -8,7 +8,6 @@ use lib.ListN.{length, getD, take, drop, set, replicate}
 use lib.Seq.{drop-cons}
 use Rattle.format.specs.Answers.{got, refused, plain, need}
 use Rattle.format.specs.Bytes.{bytes, same, part, joined}
-use Rattle.format.specs.Elements.{clash}
 use Rattle.format.specs.Layout.{image, fits}
 use Rattle.format.specs.Reading.{contentIn}
 use Rattle.format.specs.Calls.{ownLayout}

@@ -4,15 +4,15 @@ use mathlib.Core.Logic.{inr}
 use Prim.Native.Nat.{ℕ, _+_, _-_, _≤_, _<_}
 use native.Mathlib.Omega.{arith}
 use mathlib.Core.Bool.{true}
-use mathlib.Core.List.{List, [], _∷_, _++_, append-assoc}
-use lib.ListN.{length, getD, take, drop, set, replicate, length-append, length-drop, length-replicate}
-use lib.Seq.{take-at, drop-at, take-append-seam, drop-append-add}
+use mathlib.Core.List.{List, [], _++_}
+use lib.ListN.{length, getD, take, set, replicate, length-append}
+use lib.Seq.{drop-at, take-append-seam, drop-append-add}
 use Rattle.format.specs.Answers.{got}
-use Rattle.format.specs.Bytes.{bytes, part, joined, filled}
+use Rattle.format.specs.Bytes.{bytes, part, filled}
 use Rattle.format.specs.Elements.{Content, numbers, place, known, el, put, value, valuesAt}
 use Rattle.format.specs.Reading.{contentIn}
 use Rattle.format.proofs.Slots.{values-length, values-set, known-at}
-use Rattle.rows.specs.Rows.{slotsAt, Stands, Row}
+use Rattle.rows.specs.Rows.{slotsAt, Stands}
 use Rattle.rows.proofs.Rows.{row-at, slot-at, row-lengths, slots-length, slots-set, row-set, row-more, slots-more}
 use Rattle.look.specs.View.{atsIn, lensIn, madeIn, judged}
 use Rattle.look.proofs.Judged.{seen-values}

@@ -16,7 +16,7 @@ use Rattle.format.specs.Sheet.{sheetOf, fitting, entriesIn, rightSheet, 
 use Rattle.format.specs.Layout.{ownerWidth, laidOut, image, fits}
 use Rattle.format.specs.Reading.{blocksIn, contentIn, Readable}
 use Rattle.format.specs.Calls.{sheetIn, readSteps, reading, sheetContent, writeSteps, writing, ownLayout, editSteps, Edited, editing}
-use Rattle.format.specs.Numbers.{answerGiven, answerGiven, editGiven, readNumbers, writeNumbers, editNumbers, Each, oneOf, numberOf, resultOf, Reads, Writes, Edits, ReadsC, WritesC, EditsC}
+use Rattle.format.specs.Numbers.{editGiven, readNumbers, writeNumbers, editNumbers, Each, oneOf, numberOf, resultOf, Reads, Writes, Edits, ReadsC, WritesC, EditsC}
 use Rattle.format.specs.History.{Own, State, begin, run}
 use Rattle.format.specs.Demands.{Exact, ReadsExactly, WritesExactly, EditsExactly, ReadsUnchanged, WritesUnchanged, EditsUnchanged, ReadsBack, LaysDown, CountsWritten, CountsEdited, PutsElement, EveryHistory, SameIsNothing}
 use Rattle.format.specs.declared.NumberAnswer.{NumberAnswer}

@@ -40,13 +40,13 @@ zeros n = replicate n 0
 abbrev pub Blank : ℕ → List ℕ → Type 0
 Blank at d = drop at d ≡ zeros (length d - at)
 
--- the owner field of d is 00
+-- an owner or nothing, and the owner field of d is 00
 pub record OwnerFits (o d : List ℕ) : Type 0 where
   pub size : 32 ≤ length d
   pub blank : Blank 21 d
   pub good : OwnerOrNone o
 
--- and holds this ISIL, an owner that is no alternative, in a basic form
+-- and it holds the owner, which is no alternative and so an ISIL, in a basic form
 pub record IsilFits (o d : List ℕ) : Type 0 where
   pub field : OwnerFits o d
   pub high : 4 ≤ getD o 0 0

@@ -3,32 +3,28 @@ use mathlib.Core.Path.{_≡_, refl, sym, ap, _∙_}
 use Prim.Native.Nat.{ℕ, _+_, _≤_}
 use native.Mathlib.Omega.{arith}
 use mathlib.Core.Bool.{Bool, true, false, not, _&&_}
-use mathlib.Core.List.{List, [], _++_, append-nil}
+use mathlib.Core.List.{List, _++_}
 use lib.ListN.{length, drop}
 use lib.Dec.{eqb}
 use borrow.Author.Tests.{eqb-true, eqb-false, ne-eqb}
 use Rattle.format.specs.declared.Part.{Part}
-use Rattle.format.specs.Answers.{got, refused, plain, Step, inOrder}
+use Rattle.format.specs.Answers.{got}
 use Rattle.format.specs.Bytes.{if_then_else_, part, bytes, joined, filled}
 use Rattle.format.specs.Pages.{pageSize, goodSize}
 use Rattle.format.specs.Pieces.{Held}
 use Rattle.format.specs.Chain.{libraryBlock, otherBlocks}
-use Rattle.format.specs.Reading.{blocksIn, contentIn, tagSteps, Readable}
+use Rattle.format.specs.Reading.{blocksIn, contentIn, Readable}
 use Rattle.format.specs.Calls.{ownLayout}
 use Rattle.format.proofs.Tests.{never, and-l, and-r, not-t, not-f}
-use Rattle.format.proofs.Answers.{next-inv, refused-with, works, worked}
-use Rattle.format.proofs.Readable.{on-readable}
 use Rattle.format.proofs.Strings.{nil-of}
 use Rattle.rows.specs.Rows.{slotsAt, Row}
 use Rattle.chain.specs.Survey.{endAt, surveyed, surveyOf}
 use Rattle.chain.proofs.Laws.{Surveyed, survey-whole}
 use Rattle.chain.proofs.Piece.{OnePiece, in-one-piece, own-piece}
-use Rattle.look.specs.declared.View.{View}
-use Rattle.look.specs.declared.Look.{Look}
 use Rattle.look.specs.declared.Look.the-variants as look
 use Rattle.look.specs.Row.{from, nowhere, pieceBy}
 use Rattle.look.specs.Looking.{itemOn, ownerPartsOn, libraryPartsOn, FieldsOf}
-use Rattle.look.specs.View.{blockIn, atsIn, lensIn, madeIn, viewIn, lookSteps, judged, lookGiven, looking}
+use Rattle.look.specs.View.{blockIn, atsIn, lensIn, madeIn, viewIn, judged, looking}
 use Rattle.look.proofs.Standing.{holds-row, holds-slots}
 use Rattle.look.proofs.Steps.{size-passed}
 use Rattle.look.proofs.Judged.{seen-size, seen-readable}

@@ -11,7 +11,7 @@ use lib.Seq.{take-nil, take-take, drop-drop, take-append-le, drop-append-le, dro
 use lib.Dec.{leb}
 use borrow.Author.Tests.{leb-true, leb-false}
 use Rattle.format.specs.declared.Part.{Part}
-use Rattle.format.specs.Bytes.{if_then_else_, part}
+use Rattle.format.specs.Bytes.{part}
 use Rattle.format.specs.Pieces.{Held}
 use Rattle.rows.specs.Rows.{slotsAt, Stands, Row, none, next}
 use Rattle.fields.proofs.Places.{Within}

@@ -12,7 +12,7 @@ use borrow.Author.Tests.{eq-eqb, ne-eqb, le-leb, lt-leb}
 use Rattle.format.specs.declared.Part.{Part}
 use Rattle.format.specs.Answers.{Answer, got, refused, plain, Step, need, inOrder, passed}
 use Rattle.format.specs.Numbers.{numberOf}
-use Rattle.format.specs.Bytes.{if_then_else_, same, le16, part, filled}
+use Rattle.format.specs.Bytes.{same, le16, part, filled}
 use Rattle.format.specs.Pages.{pageSize, goodSize}
 use Rattle.format.specs.Crc.{crc, covered}
 use Rattle.format.specs.Fields.{goodItem, goodOwner}

@@ -1,17 +1,17 @@
 -- Laws for callers: a good size is whole pages; and what judging the locks and storing come to where the image is as long as the tag.
 -- Over the page size p.
-use mathlib.Core.Path.{_≡_, refl, ap, ap₂, _∙_}
+use mathlib.Core.Path.{_≡_, ap, ap₂, _∙_}
 use mathlib.Core.Logic.{⊎-elim}
 use Prim.Native.Nat.{ℕ, _*_, _/_, _%_, _≤_}
 use native.Mathlib.Nat.{div-add-mod'}
 use native.Mathlib.Omega.{arith}
 use mathlib.Core.Bool.{true, _&&_}
-use mathlib.Core.List.{List, [], _∷_, _++_, append-nil}
+use mathlib.Core.List.{List, _++_, append-nil}
 use lib.Dec.{eqb}
 use lib.ListN.{length, drop-of-length-le}
 use lib.Seq.{take-all}
 use borrow.Author.Tests.{eq-eqb, eqb-true, le-ltb}
-use Rattle.format.specs.Answers.{got, refused, Step, need, inOrder}
+use Rattle.format.specs.Answers.{need}
 use Rattle.format.specs.Bytes.{between}
 use Rattle.format.specs.Pages.{goodSize, differs, count, changed, lockedChanged}
 use Rattle.format.proofs.Tests.{and-l, or-inv}

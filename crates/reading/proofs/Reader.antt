@@ -7,7 +7,7 @@ use lib.Dec.{leb}
 use native.Mathlib.Omega.{arith}
 use lib.ListN.{length, take, drop, length-drop}
 use lib.Seq.{length-take-le}
-use Rattle.format.specs.Answers.{Answer, got, refused, plain, need, afterwards}
+use Rattle.format.specs.Answers.{Answer, refused, plain, need, afterwards}
 use Rattle.format.specs.Bytes.{bytes, joined, part, filled}
 use Rattle.format.specs.Pages.{pageSize}
 use Rattle.format.specs.Elements.{Content, numbers, valuesAt}

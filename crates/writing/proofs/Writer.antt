@@ -7,8 +7,7 @@ use mathlib.Core.List.{List, [], _∷_, _++_}
 use lib.Dec.{eqb}
 use lib.ListN.{length, take, drop, replicate, length-drop, length-replicate}
 use lib.Seq.{take-all}
-use borrow.Author.Tests.{eq-eqb}
-use Rattle.format.specs.Answers.{Answer, got, refused, plain, Step, need, inOrder, afterwards}
+use Rattle.format.specs.Answers.{got, refused, plain, Step, need, inOrder}
 use Rattle.format.specs.Bytes.{joined}
 use Rattle.format.specs.Pages.{pageSize, goodSize, lockMap, changed, lockedChanged}
 use Rattle.format.specs.Elements.{Content, numbers, valuesAt}

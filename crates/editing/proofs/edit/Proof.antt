@@ -1,7 +1,6 @@
 -- `editing::edit` judges size and lock map, and takes a draft of one length or another.
-use mathlib.Core.Path.{_≡_, sym, ap, _∙_}
+use mathlib.Core.Path.{sym, ap, _∙_}
 use Prim.Native.Nat.{_≤_}
-use mathlib.Core.Bool.{true}
 use lib.ListN.{length}
 use Rattle.format.specs.Pages.{pageSize}
 use Rattle.format.specs.Numbers.{numberOf, stageGiven}

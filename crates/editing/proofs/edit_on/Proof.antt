@@ -15,7 +15,7 @@ use Rattle.look.proofs.Laws.{Seen, look-seen}
 use Rattle.editing.specs.Editing.{Fresh}
 use Rattle.editing.proofs.Editor.{look-edits, own-edits, value-edits}
 use Rattle.editing.proofs.Own.{own-inside, made-long}
-use Rattle.editing.proofs.Edited.{Taken, Put, cleared-fresh, seen-length, put-asks, old-fits, full-length, edited-asks, old-there, old-bytes, drafted-refused, locked-refused, stored-edits}
+use Rattle.editing.proofs.Edited.{Taken, Put, cleared-fresh, put-asks, old-fits, full-length, edited-asks, old-there, old-bytes, drafted-refused, locked-refused, stored-edits}
 use borrow.Author.Needs.{needs}
 use Rattle.editing.proofs.edit_on.Statement.{statement}
 use Rattle.editing.proofs.edit_on.Tie as tie

@@ -2,6 +2,7 @@
 use mathlib.Core.Path.{sym, _∙_}
 use borrow.Author.Tests.{not-true, not-false, lt-leb, le-leb}
 use Rattle.format.proofs.Answers.{next-ok, next-no, none-ok}
+use borrow.Author.Needs.{needs}
 use Rattle.editing.proofs.value_stage.Statement.{statement}
 use Rattle.editing.proofs.value_stage.Tie as tie
 

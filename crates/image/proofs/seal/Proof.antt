@@ -3,12 +3,11 @@ use mathlib.Core.Path.{_≡_, sym, ap, _∙_}
 use Prim.Native.Nat.{ℕ, _/_, _%_, _≤_, _<_}
 use native.Mathlib.Omega.{arith}
 use mathlib.Core.List.{List, [], _∷_}
-use lib.ListN.{length, set, length-set}
+use lib.ListN.{length, set}
 use borrow.Author.Needs.{needs}
 use borrow.Author.Tests.{lt-leb}
 use Rattle.format.specs.Bytes.{le16}
 use Rattle.format.specs.Crc.{crc, covered}
-use Rattle.format.proofs.Pieces.{stored-byte, stored-then}
 use Rattle.image.specs.Drafting.{withCheck, sealing}
 use Rattle.image.proofs.Laws.{put-check, sealing-long}
 use Rattle.image.proofs.seal.Statement.{statement}

@@ -1,5 +1,5 @@
 -- `rows::place_of` meets its contract: the number does not stand before place k.
-use mathlib.Core.Path.{_≡_, sym, _∙_}
+use mathlib.Core.Path.{sym, _∙_}
 use Prim.Native.Nat.{_-_}
 use borrow.Author.Needs.{needs}
 use Rattle.format.specs.Elements.{numbers}

@@ -1,5 +1,5 @@
 -- `writing::write_on` passes the refusals of its stages on, or stores the sealed draft.
-use mathlib.Core.Path.{_≡_, sym, ap, _∙_}
+use mathlib.Core.Path.{ap, _∙_}
 use Prim.Native.Nat.{_≤_}
 use lib.ListN.{length}
 use Rattle.format.specs.Numbers.{numberOf, stageGiven}
