@@ -100,6 +100,6 @@ module _ (t ats lens made d₀ : List ℕ) (v : View) (y : bytes t ≡ true) (s 
         unfolding ownLayout
         own-same b e =
             let w : set (set d₁ 19 (getD t 19 0)) 20 (getD t 20 0) ≡ withCheck (part 19 2 t) (unsealed (length t) (contentIn t .slots) (joined (contentIn t .carried))) =
-                put-check d₁ (getD t 19 0) (getD t 20 0) (omega (arith, least, drafted-long)) ∙ ap₂ (λ (x d : List ℕ). withCheck x d) (sym check-bytes) left in
+            put-check d₁ (getD t 19 0) (getD t 20 0) (omega (arith, least, drafted-long)) ∙ ap₂ (λ (x d : List ℕ). withCheck x d) (sym check-bytes) left in
             e ∙ ap (λ (x : List ℕ). same x t) w ∙ own-layout t (contentIn t .slots) (joined (contentIn t .carried)) least (seen-readable t (s .seen) .check) fit
             ∙ ap (λ (x : Bool). x && same (image (length t) (contentIn t)) t) (sym fit)

@@ -62,7 +62,11 @@ fn own_stage<'a>(
     };
     draft[19] = tag[19];
     draft[20] = tag[20];
-    if pages::same(draft, tag) { Stage::Passed } else { Stage::Refused(13) }
+    if pages::same(draft, tag) {
+        Stage::Passed
+    } else {
+        Stage::Refused(13)
+    }
 }
 
 // 2 and 9: the room for the old element, and the new bytes.

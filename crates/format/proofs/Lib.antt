@@ -1,5 +1,6 @@
 pub mod Tests
 pub mod Answers
+pub mod Given
 pub mod Strings
 pub mod Pieces
 pub mod Xor

@@ -38,7 +38,7 @@ use Rattle.format.proofs.Laying.{laid-open, layout-own}
 use Rattle.format.proofs.Writes.{write-passed, written-own, written-length, written-sheet, written-passes, own-written}
 use Rattle.format.proofs.Edits.{edit-passed, own-elements, edit-passes, passed-edit, same-length, edited-own, same-accepted}
 use Rattle.format.proofs.Histories.{Good, history, begun}
-use Rattle.format.proofs.One.{answer-same}
+use Rattle.format.proofs.Given.{answer-same}
 
 -- ==== Demand 1: one answer and one content for each buffer, on every input; a refusal changes nothing and gives only its number
 

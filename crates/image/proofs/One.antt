@@ -5,7 +5,7 @@ use mathlib.Core.List.{List, _++_}
 use lib.ListN.{length}
 use Rattle.format.specs.Answers.{Step, afterwards}
 use Rattle.format.specs.declared.Stage.{Stage}
-use Rattle.format.proofs.One.{stage-same}
+use Rattle.format.proofs.Given.{stage-same}
 use Rattle.rows.specs.Rows.{slotsAt}
 use Rattle.image.specs.Drafting.{Drafted, sealing, unsealed}
 

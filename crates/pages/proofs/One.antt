@@ -8,7 +8,7 @@ use Rattle.format.specs.Bytes.{same}
 use Rattle.format.specs.Numbers.{stageGiven}
 use Rattle.format.specs.Pages.{pageSize, goodSize, lockMap}
 use Rattle.format.specs.declared.Stage.{Stage}
-use Rattle.format.proofs.One.{stage-same}
+use Rattle.format.proofs.Given.{stage-same}
 use Rattle.pages.specs.Storing.{lockJudged, countStored, tagStored}
 
 pub good-size-one : (n : ℕ) (r r₂ : Bool) → r ≡ goodSize pageSize n → r₂ ≡ goodSize pageSize n → r ≡ r₂

@@ -17,5 +17,14 @@ pub fn read(tag: &[u8], sheet: &mut [u8]) -> NumberAnswer
     let blocks = view.blocks;
     let from = blocks.at;
     let end = from + blocks.len;
-    render::render(tag, &made, &ats, &lens, view.count, view.size, &tag[from..end], sheet)
+    render::render(
+        tag,
+        &made,
+        &ats,
+        &lens,
+        view.count,
+        view.size,
+        &tag[from..end],
+        sheet,
+    )
 }

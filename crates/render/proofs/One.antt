@@ -4,7 +4,7 @@ use Prim.Native.Nat.{ℕ}
 use mathlib.Core.List.{List, _++_}
 use Rattle.format.specs.Sheet.{entries}
 use Rattle.format.specs.declared.NumberAnswer.{NumberAnswer}
-use Rattle.format.proofs.One.{answer-same}
+use Rattle.format.proofs.Given.{answer-same}
 use Rattle.rows.specs.Rows.{slotsAt}
 use Rattle.render.specs.Rendering.{carriedOn, Rendered}
 

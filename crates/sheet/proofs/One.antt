@@ -3,7 +3,7 @@ use mathlib.Core.Path.{_≡_, sym, _∙_}
 use Prim.Native.Nat.{ℕ}
 use mathlib.Core.List.{List}
 use Rattle.format.specs.declared.NumberAnswer.{NumberAnswer}
-use Rattle.format.proofs.One.{answer-same}
+use Rattle.format.proofs.Given.{answer-same}
 use Rattle.sheet.specs.Scanning.{Scanned}
 
 pub scan-one : (sheet ats lens : List ℕ) (r r₂ : NumberAnswer) (ats′ lens′ ats₂ lens₂ : List ℕ) → Scanned sheet ats lens r ats′ lens′ → Scanned sheet ats lens r₂ ats₂ lens₂

@@ -34,7 +34,7 @@ module _ (before out : List ℕ) (i : ℕ) (c : Cleared before out i) where
       let front : take i out ≡ (zeros i) = ap (take i) (c .is) ∙ take-at (zeros i) (drop i before) i l in
       let n : suc i ≡ length (zeros i) + 1 = omega (arith, l) in
       let back : drop (suc i) out ≡ drop (i + 1) before =
-          ap₂ drop n (c .is) ∙ drop-append-add (zeros i) (drop i before) 1 ∙ drop-drop 1 i before in
+      ap₂ drop n (c .is) ∙ drop-append-add (zeros i) (drop i before) 1 ∙ drop-drop 1 i before in
       record {
         inside = omega (arith, h);
         is = set-split out i 0 (omega (arith, h, cleared-length)) ∙ ap₂ (λ (x y : List ℕ). x ++ (0 ∷ y)) front back
