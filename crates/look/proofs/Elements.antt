@@ -22,39 +22,22 @@ use Rattle.format.proofs.Sound.{agree-owner}
 use Rattle.fields.specs.declared.ItemParts.{ItemParts}
 use Rattle.fields.specs.declared.OwnerParts.{OwnerParts}
 use Rattle.fields.specs.declared.LibraryParts.{LibraryParts}
-use Rattle.fields.proofs.Places.{Within, within-length, ItemStands, OwnerStands, LibraryStands}
-use Rattle.look.specs.Row.{from, nowhere, itemBy, secondBy, isilMade, isilBytes, isilBy, otherBy, mediaLength, usageBy, rowBy, frontMade, madeBy, RowLies}
+use Rattle.fields.proofs.Places.{Within, within-length}
+use Rattle.look.specs.Row.{from, nowhere, itemBy, secondBy, isilMade, isilBytes, isilBy, otherBy, mediaLength, usageBy, rowBy, frontMade, madeBy, IsilLies, OwnerLies, RowLies}
 use Rattle.look.specs.Looking.{FieldsOf}
 use Rattle.look.proofs.Standing.{part-part, held-length, Lies, lies-as, in-made, no-bytes, in-part, Holds, done, more}
 use Rattle.look.proofs.Steps.{item-of, owner-of, library-of}
 
 module _ (t : List ℕ) (block : Part) (h : Held t block (libraryBlock (blocksIn t))) (i : ItemParts) (o : OwnerParts) (l : LibraryParts) (f : FieldsOf t i o l) where
-  abbrev item : ItemStands (part 3 16 t) i
-  item = item-of t i o l f
-
-  abbrev owner : OwnerStands (part 21 13 t) o
-  owner = owner-of t i o l f
-
-  abbrev library : LibraryStands (libraryBlock (blocksIn t)) l
-  library = library-of t i o l f
-
   pub row-lies : RowLies t (block .at) o l
   row-lies =
-      record {
-        least = f .sized .least;
-        begins = omega (arith, h .inside);
-        item = omega (arith, library .item .inside, held-length h, h .inside);
-        owner = record {
-          size = f .sized .most;
-          field = λ s. record {
-            some = omega (arith, s);
-            short = owner .prefix-few;
-            fits = owner .unit-few;
-            inside = omega (arith, owner .unit-inside, length-take 13 (drop 21 t), length-drop 21 t, f .sized .least);
-          };
-          block = λ s. omega (arith, s, library .owner .inside, held-length h, h .inside);
-        };
-      }
+      let w = owner-of f in
+      let long = length-take 13 (drop 21 t) in
+      let rest = length-drop 21 t in
+      let b = held-length h in
+      let field : (o .prefix ≡ 0 → ⊥) → IsilLies t (o .prefix) (o .isil) = λ s. record { some = omega arith; short = w .prefix-few; fits = w .unit-few; inside = omega arith } in
+      let lies : OwnerLies t (block .at + 6 + l .item) o l = record { size = f .sized .most; field = field; block = λ s. omega (arith, library-of f .owner .inside) } in
+      record { least = f .sized .least; begins = omega arith; item = omega (arith, library-of f .item .inside); owner = lies }
 
   -- m is what was made: set information, usage and an ISIL at the front of a buffer of 19 bytes
   module _ (made : List ℕ) (long : length made ≡ 19) (agreed : agree t ≡ true) where
@@ -62,38 +45,27 @@ module _ (t : List ℕ) (block : Part) (h : Held t block (libraryBlock (blocksIn
     m = filled (madeBy t o l) made
 
     prefix-part : part 0 (o .prefix) (part 21 13 t) ≡ part 21 (o .prefix) t
-    prefix-part = part-part 0 (o .prefix) 21 13 t (omega (arith, owner .prefix-few))
+    prefix-part = part-part 0 (o .prefix) 21 13 t (omega (arith, owner-of f .prefix-few))
 
     unit-part : part 2 (o .isil) (part 21 13 t) ≡ part 23 (o .isil) t
-    unit-part = part-part 2 (o .isil) 21 13 t (omega (arith, owner .unit-few))
+    unit-part = part-part 2 (o .isil) 21 13 t (omega (arith, owner-of f .unit-few))
 
-    isil-long : (o .prefix ≡ 0 → ⊥) → length (isilMade t (o .prefix) (o .isil)) ≡ o .prefix + 1 + o .isil
+    -- the lengths of an ISIL's sides
+    sides : (length (isilMade t (o .prefix) (o .isil)) ≤ 14) × ((o .prefix ≡ 0 → ⊥) → length (isilMade t (o .prefix) (o .isil)) ≡ o .prefix + 1 + o .isil)
     unfolding isilMade
-    isil-long s =
-        let lies = row-lies .owner .field s in
-        omega (
-          arith,
-          length-append (part 21 (o .prefix) t) (hyphen ∷ part 23 (o .isil) t),
-          length-take (o .prefix) (drop 21 t),
-          length-drop 21 t,
-          length-take (o .isil) (drop 23 t),
-          length-drop 23 t,
-        )
+    sides =
+        let all = length-append (part 21 (o .prefix) t) (hyphen ∷ part 23 (o .isil) t) in
+        let p = length-take (o .prefix) (drop 21 t) in
+        let u = length-take (o .isil) (drop 23 t) in
+        let w = owner-of f in
+        (omega arith, λ s. omega (arith, length-drop 21 t, length-drop 23 t, row-lies .owner .field s .inside))
 
     isil-length : length (isilBytes t o l) ≤ 14
-    unfolding isilBytes isilMade
+    unfolding isilBytes
     isil-length = go (eqb (l .owner) 0 && not (eqb (o .prefix) 0))
       where
         go : (x : Bool) → length (if x then isilMade t (o .prefix) (o .isil) else []) ≤ 14
-        go true =
-            omega (
-              arith,
-              length-append (part 21 (o .prefix) t) (hyphen ∷ part 23 (o .isil) t),
-              length-take (o .prefix) (drop 21 t),
-              length-take (o .isil) (drop 23 t),
-              owner .prefix-few,
-              owner .unit-few,
-            )
+        go true = sides .0
         go false = omega arith
 
     pub made-length : length m ≡ 19
@@ -107,14 +79,14 @@ module _ (t : List ℕ) (block : Part) (h : Held t block (libraryBlock (blocksIn
     in-block k n s w z = in-part t m (block .at) (block .len) (omega (arith, h .inside)) k n s (rw (h .is) w) (λ e. omega (arith, z e, made-length))
 
     item-block : Lies t m (from (block .at + 5) (l .item)) (libraryOn t .item)
-    item-block = in-block 5 (l .item) (libraryOn t .item) (library .item) (λ e. omega arith)
+    item-block = in-block 5 (l .item) (libraryOn t .item) (library-of f .item) (λ e. omega arith)
 
     none : Lies t m nowhere []
     none = no-bytes t m 0 (omega arith)
 
     first-lies : (x : Bool) → i .marked ≡ x → Lies t m (if x then from (block .at + 5) (l .item) else from 3 (i .len)) (if x then libraryOn t .item else itemIn t)
     first-lies true e = item-block
-    first-lies false e = in-part t m 3 16 (omega (arith, f .sized .least)) 0 (i .len) (itemIn t) (item .here e) (λ z. omega arith)
+    first-lies false e = in-part t m 3 16 (omega (arith, f .sized .least)) 0 (i .len) (itemIn t) (item-of f .here e) (λ z. omega arith)
 
     second-lies : (x : Bool) → Lies t m (if x then nowhere else from (block .at + 5) (l .item)) (if x then [] else libraryOn t .item)
     second-lies true = none
@@ -136,7 +108,7 @@ module _ (t : List ℕ) (block : Part) (h : Held t block (libraryBlock (blocksIn
     at = block .at + 6 + l .item
 
     owner-empty : isEmpty (libraryOn t .owner) ≡ eqb (l .owner) 0
-    owner-empty = empty-length (libraryOn t .owner) ∙ ap (λ (n : ℕ). eqb n 0) (within-length (library .owner))
+    owner-empty = empty-length (libraryOn t .owner) ∙ ap (λ (n : ℕ). eqb n 0) (within-length (library-of f .owner))
 
     -- both elements of the owner s, an ISIL or another
     abbrev OwnerLaid : List ℕ → Type 0
@@ -144,7 +116,7 @@ module _ (t : List ℕ) (block : Part) (h : Held t block (libraryBlock (blocksIn
 
     module _ (some : eqb (l .owner) 0 ≡ false) where
       block-owner : Lies t m (from at (l .owner)) (libraryOn t .owner)
-      block-owner = rw add-assoc (in-block (6 + l .item) (l .owner) (libraryOn t .owner) (library .owner) (λ e. absurd (eqb-false (l .owner) 0 some e)))
+      block-owner = rw add-assoc (in-block (6 + l .item) (l .owner) (libraryOn t .owner) (library-of f .owner) (λ e. absurd (eqb-false (l .owner) 0 some e)))
 
       -- its first byte tells its kind
       kind : alternate (libraryOn t .owner) ≡ alternate (getD t at 0 ∷ [])
@@ -166,7 +138,7 @@ module _ (t : List ℕ) (block : Part) (h : Held t block (libraryBlock (blocksIn
 
     module _ (no : eqb (l .owner) 0 ≡ true) where
       unmarked : o .marked ≡ false
-      unmarked = sym (owner .marks) ∙ beq-false _ (rw (owner-empty ∙ no) at (agree-owner t agreed))
+      unmarked = sym (owner-of f .marks) ∙ beq-false _ (rw (owner-empty ∙ no) at (agree-owner t agreed))
 
       -- its ISIL was made
       isil-made : eqb (o .prefix) 0 ≡ false → Lies t m (from (length t + 5) (o .prefix + 1 + o .isil)) (isilMade t (o .prefix) (o .isil))
@@ -174,17 +146,17 @@ module _ (t : List ℕ) (block : Part) (h : Held t block (libraryBlock (blocksIn
       isil-made p =
           let s : List ℕ = isilMade t (o .prefix) (o .isil) in
           let e : isilBytes t o l ≡ s = rw (no, p) in
-          let n : length s ≡ o .prefix + 1 + o .isil = isil-long (λ z. eqb-false (o .prefix) 0 p z) in
-          lies-as (in-made t m 5 (o .prefix + 1 + o .isil) (omega (arith, made-length, owner .prefix-few, owner .unit-few)))
+          let n : length s ≡ o .prefix + 1 + o .isil = sides .1 (eqb-false (o .prefix) 0 p) in
+          lies-as (in-made t m 5 (o .prefix + 1 + o .isil) (omega (arith, made-length, owner-of f .prefix-few, owner-of f .unit-few)))
           (ap (λ (x : List ℕ). take (o .prefix + 1 + o .isil) (x ++ drop (length (madeBy t o l)) made)) e ∙ take-at s _ _ n)
 
       in-owner-field : OwnerLaid (ownerSaid (ownerIn t))
       unfolding isilBy otherBy isilMade
-      in-owner-field = rw no (go (eqb (o .prefix) 0) refl, in-part t m 21 13 (omega (arith, f .sized .least)) 2 (o .other) _ (owner .other unmarked) (λ z. omega (arith, made-length)))
+      in-owner-field = rw no (go (eqb (o .prefix) 0) refl, in-part t m 21 13 (omega (arith, f .sized .least)) 2 (o .other) _ (owner-of f .other unmarked) (λ z. omega (arith, made-length)))
         where
           go : (x : Bool) → eqb (o .prefix) 0 ≡ x → let s : List ℕ = ownerSaid (ownerIn t) in Lies t m (if x then nowhere else from (length t + 5) (o .prefix + 1 + o .isil)) (if alternate s then [] else s)
-          go true p = lies-as none (rw p at (owner .isil unmarked))
-          go false p = lies-as (isil-made p) (ap₂ (λ (x y : List ℕ). x ++ hyphen ∷ y) (sym prefix-part) (sym unit-part) ∙ rw p at (owner .isil unmarked))
+          go true p = lies-as none (rw p at (owner-of f .isil unmarked))
+          go false p = lies-as (isil-made p) (ap₂ (λ (x y : List ℕ). x ++ hyphen ∷ y) (sym prefix-part) (sym unit-part) ∙ rw p at (owner-of f .isil unmarked))
 
     owner-laid : OwnerLaid (ownerOn t)
     unfolding ownerOn
@@ -197,11 +169,11 @@ module _ (t : List ℕ) (block : Part) (h : Held t block (libraryBlock (blocksIn
     pub elements-lie : bytes t ≡ true → Holds t m (rowBy t (block .at) i o l) (contentIn t .slots)
     unfolding rowBy contentIn itemBy secondBy usageBy
     elements-lie y =
-        rw (item .marks, library .usage)
+        rw (item-of f .marks, library-of f .usage)
         (more (first-lies (i .marked) refl)
         (more (owner-laid .0)
         (more (set-lies y)
         (more usage-lies
-        (more (in-block 4 (mediaLength (l .media)) _ (library .media) (λ e. omega arith))
+        (more (in-block 4 (mediaLength (l .media)) _ (library-of f .media) (λ e. omega arith))
         (more (second-lies (i .marked))
         (more (owner-laid .1) done)))))))

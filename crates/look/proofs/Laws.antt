@@ -1,12 +1,13 @@
 -- What looking at a tag tells its callers.
-use mathlib.Core.Path.{_≡_, refl, sym, ap, _∙_}
+use mathlib.Core.Path.{_≡_, refl, sym, ap}
+use mathlib.Core.Logic.{inl, inr}
 use Prim.Native.Nat.{ℕ, _+_, _≤_}
 use native.Mathlib.Omega.{arith}
-use mathlib.Core.Bool.{Bool, true, false, not, _&&_}
+use mathlib.Core.Bool.{Bool, true, false, not, _&&_, _||_}
 use mathlib.Core.List.{List, _++_}
 use lib.ListN.{length, drop}
 use lib.Dec.{eqb}
-use borrow.Author.Tests.{eqb-true, eqb-false, ne-eqb}
+use borrow.Author.Tests.{eqb-true, eqb-false, eq-eqb}
 use Rattle.format.specs.declared.Part.{Part}
 use Rattle.format.specs.Answers.{got}
 use Rattle.format.specs.Bytes.{if_then_else_, part, bytes, joined, filled}
@@ -15,7 +16,7 @@ use Rattle.format.specs.Pieces.{Held}
 use Rattle.format.specs.Chain.{libraryBlock, otherBlocks}
 use Rattle.format.specs.Reading.{blocksIn, contentIn, Readable}
 use Rattle.format.specs.Calls.{ownLayout}
-use Rattle.format.proofs.Tests.{never, and-l, and-r, not-t, not-f}
+use Rattle.format.proofs.Tests.{never, and-iff, or-inv, not-t}
 use Rattle.format.proofs.Strings.{nil-of}
 use Rattle.rows.specs.Rows.{slotsAt, Row}
 use Rattle.chain.specs.Survey.{endAt, surveyed, surveyOf}
@@ -49,29 +50,23 @@ module _ (t : List ℕ) (l n c z d : ℕ) (v : Surveyed t l n c z d) where
 
   pieced : goodSize pageSize (length t) ≡ true → Pieced t z (pieceBy l n z d)
   unfolding pieceBy
-  pieced g = go (eqb z 0) refl (not (eqb n 0) && not (eqb l 34)) refl (not (eqb (34 + n + z) d)) refl
+  pieced g = go (not (eqb z 0) && (eqb n 0 || eqb l 34) && eqb (34 + n + z) d) refl
     where
-      one : ownLayout t ≡ true → OnePiece l n z d
-      one o = own-piece t l n c z d v pageSize g o
+      -- block 1 is the first block, or there is none
+      first : eqb n 0 || eqb l 34 ≡ true → (n ≡ 0 → ⊥) → l ≡ 34
+      first e h = elim (or-inv (eqb n 0) (eqb l 34) e) [ inl q ↦ absurd (h (eqb-true n 0 q)) | inr q ↦ eqb-true l 34 q ]
 
-      go : (w : Bool) → eqb z 0 ≡ w → (x : Bool) → not (eqb n 0) && not (eqb l 34) ≡ x → (y : Bool) → not (eqb (34 + n + z) d) ≡ y
-          → Pieced t z (if w then nowhere else if x then nowhere else if y then nowhere else from (34 + n) z)
-      go true ew x ex y ey = no-piece (λ o. sym (eqb-true z 0 ew))
-      go false ew true ex y ey =
-          let some : eqb n 0 ≡ false = not-t (eqb n 0) (and-l (not (eqb n 0)) (not (eqb l 34)) ex) in
-          let away : eqb l 34 ≡ false = not-t (eqb l 34) (and-r (not (eqb n 0)) (not (eqb l 34)) ex) in
-          no-piece (λ o. absurd (eqb-false l 34 away (one o .first (eqb-false n 0 some))))
-      go false ew false ex true ey = no-piece (λ o. absurd (eqb-false (34 + n + z) d (not-t (eqb (34 + n + z) d) ey) (one o .full)))
-      go false ew false ex false ey =
-          let p : OnePiece l n z d = record { first = λ h. first h (eqb l 34) refl; full = eqb-true (34 + n + z) d (not-f (eqb (34 + n + z) d) ey) } in
-          record { inside = omega (arith, v .room, eqb-false z 0 ew); is = λ e. in-one-piece t l n c z d v p; own = λ o. refl }
-        where
-          first : (n ≡ 0 → ⊥) → (y : Bool) → eqb l 34 ≡ y → l ≡ 34
-          first h true e = eqb-true l 34 e
-          first h false e =
-              let b : not (eqb n 0) && not (eqb l 34) ≡ true = rw (ne-eqb n 0 h, e) in
-              let z : true ≡ false = sym b ∙ ex in
-              never (cc)
+      none-own : (x : Bool) → eqb z 0 ≡ x → (y : Bool) → eqb n 0 ≡ y → not x && (y || eqb l 34) && eqb (34 + n + z) d ≡ false → OnePiece l n z d → 0 ≡ z
+      none-own true ex y ey e o = sym (eqb-true z 0 ex)
+      none-own false ex true ey e o = never (cc (eq-eqb (34 + n + z) d (o .full)))
+      none-own false ex false ey e o = never (cc (eq-eqb (34 + n + z) d (o .full), eq-eqb l 34 (o .first (eqb-false n 0 ey))))
+
+      go : (x : Bool) → not (eqb z 0) && (eqb n 0 || eqb l 34) && eqb (34 + n + z) d ≡ x → Pieced t z (if x then from (34 + n) z else nowhere)
+      go true e =
+          let k = simp and-iff at e in
+          let p : OnePiece l n z d = record { first = first (k .0 .1); full = eqb-true (34 + n + z) d (k .1) } in
+          record { inside = omega (arith, v .room, eqb-false z 0 (not-t (eqb z 0) (k .0 .0))); is = λ e. in-one-piece t l n c z d v p; own = λ o. refl }
+      go false e = no-piece (λ o. none-own (eqb z 0) refl (eqb n 0) refl e (own-piece t l n c z d v pageSize g o))
 
 -- ---- what a readable tag holds, as looking finds it; `made` is the buffer that was lent
 

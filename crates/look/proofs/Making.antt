@@ -1,14 +1,14 @@
 -- What laying down a row does to the lent arrays.
-use mathlib.Core.Path.{_≡_, sym, ap, _∙_}
-use Prim.Native.Nat.{ℕ, _+_, _≤_, _<_}
+use mathlib.Core.Path.{_≡_, refl, sym, ap, _∙_}
+use Prim.Native.Nat.{ℕ, _+_, _≤_}
 use native.Mathlib.Omega.{arith}
 use mathlib.Core.List.{List, [], _∷_, _++_, append-assoc}
-use lib.ListN.{length, drop, getD, set, length-set, drop-of-length-le}
-use lib.Seq.{drop-cons, drop-drop}
+use lib.ListN.{length, take, drop, getD, set, length-set, drop-of-length-le}
+use lib.Seq.{drop-cons, drop-drop, sets, sets-eq}
 use Rattle.format.specs.Bytes.{part, filled}
 use Rattle.format.specs.Fields.{hyphen}
 use Rattle.format.specs.Pieces.{stored}
-use Rattle.format.proofs.Pieces.{stored-byte, stored-then}
+use Rattle.format.proofs.Pieces.{stored-then}
 use Rattle.format.proofs.Strings.{four-of}
 use Rattle.fields.specs.declared.OwnerParts.{OwnerParts}
 use Rattle.fields.specs.declared.LibraryParts.{LibraryParts}
@@ -17,34 +17,22 @@ use Rattle.look.specs.Row.{isilMade, isilBytes, frontMade, madeBy, stead
 -- ---- an ISIL, laid down from byte 5 on
 
 module _ (t d : List ℕ) (unit : ℕ) (long : length d ≡ 19) (lies : 23 + unit ≤ length t) where
-  -- behind its prefix p stand the hyphen and the unit
-  behind : (p d₁ d′ : List ℕ) (n r : ℕ) → stored d 5 p n d₁ → n < length d₁ → stored (set d₁ n hyphen) (n + 1) (part 23 unit t) r d′ → d′ ≡ stead 5 (p ++ (hyphen ∷ part 23 unit t)) d
-  behind p d₁ d′ n r begun room unit-laid =
-      let all = stored-then d _ d′ (p ++ (hyphen ∷ [])) (part 23 unit t) 5 (n + 1) r (omega arith) (stored-then d d₁ _ p (hyphen ∷ []) 5 n (n + 1) (omega arith) begun (stored-byte d₁ n hyphen room)) unit-laid in
-      rw (append-assoc p (hyphen ∷ []) (part 23 unit t)) at (all .1)
-
-  letter : stored d 5 (getD t 21 0 ∷ []) 6 (set d 5 (getD t 21 0))
-  letter = stored-byte d 5 (getD t 21 0) (omega arith)
+  -- behind the bytes p, which are its prefix and the hyphen, stands the unit
+  behind : (p d′ : List ℕ) (r : ℕ) → length p ≤ 14 → stored (sets d 5 p) (5 + length p) (part 23 unit t) r d′ → d′ ≡ stead 5 (p ++ part 23 unit t) d
+  behind p d′ r few e =
+      let begun = sets-eq p d 5 (omega arith) ∙ append-assoc (take 5 d) p (drop (5 + length p) d) in
+      stored-then d (sets d 5 p) d′ p (part 23 unit t) 5 (5 + length p) r (omega arith) (refl, begun) e .1
 
   pub one-letter : (d′ : List ℕ) (r : ℕ) → stored (set (set d 5 (getD t 21 0)) 6 hyphen) 7 (part 23 unit t) r d′ → d′ ≡ stead 5 (isilMade t 1 unit) d
   unfolding isilMade
-  one-letter d′ r e = rw (drop-cons t 21 0 (omega arith)) (behind (getD t 21 0 ∷ []) _ d′ 6 r letter (omega (arith, length-set d 5 (getD t 21 0))) e)
+  one-letter d′ r e = rw (drop-cons t 21 0 (omega arith)) (behind (getD t 21 0 ∷ hyphen ∷ []) d′ r (omega arith) e)
 
   pub two-letters : (d′ : List ℕ) (r : ℕ) → stored (set (set (set d 5 (getD t 21 0)) 6 (getD t 22 0)) 7 hyphen) 8 (part 23 unit t) r d′ → d′ ≡ stead 5 (isilMade t 2 unit) d
   unfolding isilMade
   two-letters d′ r e =
-      let d₁ : List ℕ = set d 5 (getD t 21 0) in
-      let l = length-set d 5 (getD t 21 0) in
-      let two = stored-then d d₁ _ (getD t 21 0 ∷ []) (getD t 22 0 ∷ []) 5 6 7 (omega arith) letter (stored-byte d₁ 6 (getD t 22 0) (omega arith)) in
-      rw (drop-cons t 21 0 (omega arith), drop-cons t 22 0 (omega arith)) (behind (getD t 21 0 ∷ getD t 22 0 ∷ []) _ d′ 7 r two (omega (arith, length-set d₁ 6 (getD t 22 0))) e)
+      rw (drop-cons t 21 0 (omega arith), drop-cons t 22 0 (omega arith)) (behind (getD t 21 0 ∷ getD t 22 0 ∷ hyphen ∷ []) d′ r (omega arith) e)
 
--- ---- the front of `made`, and all of it
-
-five-of : (d : List ℕ) → 5 ≤ length d → d ≡ getD d 0 0 ∷ getD d 1 0 ∷ getD d 2 0 ∷ getD d 3 0 ∷ getD d 4 0 ∷ drop 5 d
-five-of d h = four-of d (omega arith) ∙ ap (λ (l : List ℕ). getD d 0 0 ∷ getD d 1 0 ∷ getD d 2 0 ∷ getD d 3 0 ∷ l) (drop-cons d 4 0 (omega arith))
-
-pub front-set : (d : List ℕ) (a b e f g : ℕ) → 5 ≤ length d → set (set (set (set (set d 0 a) 1 b) 2 e) 3 f) 4 g ≡ filled (a ∷ b ∷ e ∷ f ∷ g ∷ []) d
-front-set d a b e f g h = ap (λ (l : List ℕ). set (set (set (set (set l 0 a) 1 b) 2 e) 3 f) 4 g) (five-of d h)
+-- ---- what is made
 
 pub made-set : (t : List ℕ) (o : OwnerParts) (l : LibraryParts) (d : List ℕ) {d₁ d₂ : List ℕ} → d₁ ≡ filled (frontMade t l) d
     → d₂ ≡ stead 5 (isilBytes t o l) d₁ → d₂ ≡ filled (madeBy t o l) d
@@ -57,6 +45,9 @@ made-set t o l d e₁ e₂ =
     rw (e₂, e₁) (ap (λ (r : List ℕ). frontMade t l ++ (s ++ r)) e)
 
 -- ---- the row: each place is stored to
+
+five-of : (d : List ℕ) → 5 ≤ length d → d ≡ getD d 0 0 ∷ getD d 1 0 ∷ getD d 2 0 ∷ getD d 3 0 ∷ getD d 4 0 ∷ drop 5 d
+five-of d h = four-of d (omega arith) ∙ ap (λ (l : List ℕ). getD d 0 0 ∷ getD d 1 0 ∷ getD d 2 0 ∷ getD d 3 0 ∷ l) (drop-cons d 4 0 (omega arith))
 
 seven-of : (l : List ℕ) → length l ≡ 7 → l ≡ getD l 0 0 ∷ getD l 1 0 ∷ getD l 2 0 ∷ getD l 3 0 ∷ getD l 4 0 ∷ getD l 5 0 ∷ getD l 6 0 ∷ []
 seven-of l h =

@@ -8,18 +8,17 @@ use mathlib.Core.List.{List, [], _∷_}
 use lib.ListN.{length, getD}
 use lib.Seq.{drop-cons}
 use lib.Dec.{eqb, leb}
-use borrow.Author.Tests.{eq-eqb, ne-eqb, le-leb, lt-leb}
+use borrow.Author.Tests.{eq-eqb, ne-eqb}
 use Rattle.format.specs.declared.Part.{Part}
-use Rattle.format.specs.Answers.{Answer, got, refused, plain, Step, need, inOrder, passed}
+use Rattle.format.specs.Answers.{Answer, got, refused, plain, Step, need, inOrder, passed, afterwards}
 use Rattle.format.specs.Numbers.{numberOf}
 use Rattle.format.specs.Bytes.{same, le16, part, filled}
 use Rattle.format.specs.Pages.{pageSize, goodSize}
-use Rattle.format.specs.Crc.{crc, covered}
 use Rattle.format.specs.Fields.{goodItem, goodOwner}
 use Rattle.format.specs.Chain.{libraryBlock, goodLibrary}
 use Rattle.format.specs.Reading.{mainUsage, itemIn, ownerIn, walked, blocksIn, libraryOn, goodFields, agree, tagSteps}
-use Rattle.format.proofs.Tests.{and-no, or-r}
-use Rattle.format.proofs.Answers.{need-ok, need-no, first-ok, first-no, next-ok, next-no, next-inv, none-ok, none-inv, passed-ok, passed-no, refused-on, passed-on, afterwards-got, afterwards-refused}
+use Rattle.format.proofs.Tests.{and-no}
+use Rattle.format.proofs.Answers.{need-ok, need-no, first-ok, next-inv, none-inv, passed-ok, refused-on, passed-on, afterwards-got, afterwards-refused}
 use Rattle.format.proofs.Strings.{empty-length}
 use Rattle.format.proofs.Layouts.{size-cases, size-most}
 use Rattle.format.proofs.Sound.{fields-parts}
@@ -44,10 +43,8 @@ refused-number x k n e h = e ∙ ap (λ (j : ℕ). refused (plain j)) (sym (h �
 
 pub size-passed : (t : List ℕ) → goodSize pageSize (length t) ≡ true → Sized t
 size-passed t e =
-    record {
-      least = elim (size-cases pageSize (length t) e) [ inl h ↦ omega (arith, h) | inr h ↦ omega (arith, h) ];
-      most = size-most pageSize (length t) e;
-    }
+    let least : 32 ≤ length t = elim (size-cases pageSize (length t) e) [ inl h ↦ omega (arith, h) | inr h ↦ omega (arith, h) ] in
+    record { least = least; most = size-most pageSize (length t) e }
 
 -- the CRC's two bytes, low byte first
 check-bytes : (t : List ℕ) (k : ℕ) → Sized t → same (part 19 2 t) (le16 k) ≡ eqb (getD t 19 0) (k % 256) && (eqb (getD t 20 0) (k / 256 % 256) && true)
@@ -62,23 +59,6 @@ module _ (t : List ℕ) (k : ℕ) (s : Sized t) where
   high-decides e h =
       let high : k / 256 % 256 ≡ k / 256 = omega arith in
       check-bytes t k s ∙ rw (eq-eqb _ _ e, high, and-true)
-
-module _ (t : List ℕ) where
-  pub size-no : goodSize pageSize (length t) ≡ false → refused (plain 1) ≡ basicJudged t
-  size-no e = sym (next-no 1 _ _ tt e)
-
-  pub parameter-no : goodSize pageSize (length t) ≡ true → (getD t 0 0 % 16 ≡ 1 → ⊥) → refused (plain 3) ≡ basicJudged t
-  parameter-no s e = sym (next-ok 1 _ _ tt s ∙ next-no 3 _ _ tt (ne-eqb _ _ e))
-
-  module _ (s : goodSize pageSize (length t) ≡ true) (p : getD t 0 0 % 16 ≡ 1) where
-    check-next : basicJudged t ≡ inOrder {A = Unit {0}} (need 4 (same (part 19 2 t) (le16 (crc (covered t)))) ∷ []) tt
-    check-next = next-ok 1 _ _ tt s ∙ next-ok 3 _ _ tt (eq-eqb _ _ p)
-
-    pub check-no : same (part 19 2 t) (le16 (crc (covered t))) ≡ false → refused (plain 4) ≡ basicJudged t
-    check-no e = sym (check-next ∙ next-no 4 _ _ tt e)
-
-    pub basic-ok : same (part 19 2 t) (le16 (crc (covered t))) ≡ true → got tt ≡ basicJudged t
-    basic-ok e = sym (check-next ∙ next-ok 4 _ _ tt e ∙ none-ok tt)
 
 -- ---- 6
 
@@ -107,52 +87,24 @@ module _ (t : List ℕ) where
   librarySeen = libraryGiven (libraryForm (libraryBlock (blocksIn t)))
 
   -- the fields are good: one step after the other
-  fields-each : {A : Type 0} (p : A)
+  pub fields-each : {A : Type 0} (p : A)
       → foundIf (goodFields t) p ≡ inOrder (need 6 (leb (getD t 2 0) (getD t 1 0)) ∷ passed itemSeen ∷ passed ownerSeen ∷ passed librarySeen ∷ []) p
   unfolding goodFields
   fields-each p =
       simp (item-given (part 3 16 t), owner-given (part 21 13 t), library-given (libraryBlock (blocksIn t)), passed-found)
       (need-and 6 _ _ [] p ∙ need-and 6 _ _ _ p ∙ need-and 6 _ _ _ p)
 
-  module _ {A : Type 0} (p : A) where
-    pub ordinal-no : getD t 1 0 < getD t 2 0 → refused (plain 6) ≡ foundIf (goodFields t) p
-    ordinal-no h = sym (fields-each p ∙ next-no 6 _ _ p (lt-leb _ _ h))
-
-    module _ (h : getD t 2 0 ≤ getD t 1 0) where
-      item-next : foundIf (goodFields t) p ≡ inOrder (passed itemSeen ∷ passed ownerSeen ∷ passed librarySeen ∷ []) p
-      item-next = fields-each p ∙ next-ok 6 _ _ p (le-leb _ _ h)
-
-      pub item-no : (k : ℕ) → itemSeen ≡ refused (plain k) → refused (plain k) ≡ foundIf (goodFields t) p
-      item-no k e = sym (item-next ∙ first-no _ _ p (plain k) (passed-no itemSeen (plain k) e))
-
-      module _ (i : ItemParts) (ei : itemSeen ≡ got i) where
-        owner-next : foundIf (goodFields t) p ≡ inOrder (passed ownerSeen ∷ passed librarySeen ∷ []) p
-        owner-next = item-next ∙ first-ok _ _ p (passed-ok itemSeen i ei)
-
-        pub owner-no : (k : ℕ) → ownerSeen ≡ refused (plain k) → refused (plain k) ≡ foundIf (goodFields t) p
-        owner-no k e = sym (owner-next ∙ first-no _ _ p (plain k) (passed-no ownerSeen (plain k) e))
-
-        module _ (o : OwnerParts) (eo : ownerSeen ≡ got o) where
-          library-next : foundIf (goodFields t) p ≡ inOrder (passed librarySeen ∷ []) p
-          library-next = owner-next ∙ first-ok _ _ p (passed-ok ownerSeen o eo)
-
-          pub library-no : (k : ℕ) → librarySeen ≡ refused (plain k) → refused (plain k) ≡ foundIf (goodFields t) p
-          library-no k e = sym (library-next ∙ first-no _ _ p (plain k) (passed-no librarySeen (plain k) e))
-
-          pub fields-ok : (l : LibraryParts) → librarySeen ≡ got l → got p ≡ foundIf (goodFields t) p
-          fields-ok l el = sym (library-next ∙ first-ok _ _ p (passed-ok librarySeen l el) ∙ none-ok p)
-
 pub found-got : {A : Type 0} (good : Bool) (parts p : A) → foundIf good parts ≡ got p → (good ≡ true) × (p ≡ parts)
 found-got good parts p e = let h = next-inv 6 good [] parts p e in (h .0, sym (none-inv parts p (h .1)))
 
-pub fields-found : (t : List ℕ) → getD t 2 0 ≤ getD t 1 0 → (i : ItemParts) → itemSeen t ≡ got i → (o : OwnerParts) → ownerSeen t ≡ got o
-    → (l : LibraryParts) → librarySeen t ≡ got l → fieldsGiven (fields.Good i o l) ≡ foundIf (goodFields t) (partsOn t)
-fields-found t h i ei o eo l el =
+pub fields-found : (t : List ℕ) (i : ItemParts) (o : OwnerParts) (l : LibraryParts) → itemSeen t ≡ got i → ownerSeen t ≡ got o → librarySeen t ≡ got l
+    → got (partsOn t) ≡ foundIf (goodFields t) (partsOn t) → fieldsGiven (fields.Good i o l) ≡ foundIf (goodFields t) (partsOn t)
+fields-found t i o l ei eo el e =
     let b : List ℕ = libraryBlock (blocksIn t) in
     let qi = found-got (goodItem (itemIn t)) (itemOn t) i (sym (item-given (part 3 16 t)) ∙ ei) in
     let qo = found-got (goodOwner (ownerIn t)) (ownerPartsOn t) o (sym (owner-given (part 21 13 t)) ∙ eo) in
     let ql = found-got (goodLibrary b) (libraryPartsOn t) l (sym (library-given b) ∙ el) in
-    rw (qi .1, qo .1, ql .1) (fields-ok t (partsOn t) h i ei o eo l el)
+    rw (qi .1, qo .1, ql .1) e
 
 pub fields-of : (t : List ℕ) → Sized t → (i : ItemParts) (o : OwnerParts) (l : LibraryParts) → fieldsGiven (fields.Good i o l) ≡ foundIf (goodFields t) (partsOn t) → FieldsOf t i o l
 fields-of t sized i o l e =
@@ -161,7 +113,7 @@ fields-of t sized i o l e =
 
 -- ---- 7
 
-module _ (t : List ℕ) (i : ItemParts) (o : OwnerParts) (l : LibraryParts) (f : FieldsOf t i o l) where
+module _ {t : List ℕ} {i : ItemParts} {o : OwnerParts} {l : LibraryParts} (f : FieldsOf t i o l) where
   pub item-of : ItemStands (part 3 16 t) i
   item-of = rw (f .item) (item-stands (part 3 16 t))
 
@@ -192,11 +144,8 @@ module _ (t : List ℕ) (i : ItemParts) (o : OwnerParts) (l : LibraryParts) (f :
     pub usage-strange : (l .usage ≡ 0 → ⊥) → eqb (l .usage / 16) (mainUsage t) ≡ false → refused (plain 7) ≡ need 7 (agree t)
     usage-strange z e = sym (need-no 7 _ (usage-decides ∙ rw (ne-eqb _ _ z, e)))
 
-    pub usage-none : l .usage ≡ 0 → got tt ≡ need 7 (agree t)
-    usage-none z = sym (need-ok 7 _ (usage-decides ∙ rw (eq-eqb _ _ z)))
-
-    pub usage-agrees : eqb (l .usage / 16) (mainUsage t) ≡ true → got tt ≡ need 7 (agree t)
-    usage-agrees e = sym (need-ok 7 _ (usage-decides ∙ or-r (eqb (l .usage) 0) _ e))
+    pub usage-fine : eqb (l .usage) 0 || eqb (l .usage / 16) (mainUsage t) ≡ true → got tt ≡ need 7 (agree t)
+    usage-fine e = sym (need-ok 7 _ (usage-decides ∙ e))
 
 -- ---- all in order
 
@@ -213,47 +162,29 @@ module _ (t : List ℕ) where
     pub begun-size : Sized t
     begun-size = size-passed t (next-inv 1 _ _ tt tt b .0)
 
-    begun : looking t ≡ inOrder steps (viewIn t)
+    pub begun : looking t ≡ inOrder steps (viewIn t)
     unfolding looking tagSteps
     begun = passed-on _ steps tt tt (viewIn t) b
 
-    pub chain-refused : (k : ℕ) → walked t ≡ refused (plain k) → looking t ≡ refused (plain k)
-    chain-refused k e = begun ∙ first-no _ _ (viewIn t) (plain k) (passed-no _ (plain k) e)
-
-    module _ (w : walked t ≡ got (blocksIn t)) where
-      whole : looking t ≡ inOrder (need 6 (goodFields t) ∷ need 7 (agree t) ∷ []) (viewIn t)
-      whole = begun ∙ first-ok _ _ (viewIn t) (passed-ok _ _ w)
-
-      pub fields-refused : (k : ℕ) → foundIf (goodFields t) (partsOn t) ≡ refused (plain k) → looking t ≡ refused (plain k)
-      fields-refused k e = whole ∙ refused-on (need 6 (goodFields t) ∷ []) (need 7 (agree t) ∷ []) (partsOn t) (viewIn t) (plain k) e
-
-      module _ (f : goodFields t ≡ true) where
-        pub agree-refused : (k : ℕ) → need 7 (agree t) ≡ refused (plain k) → looking t ≡ refused (plain k)
-        agree-refused k e = whole ∙ next-ok 6 _ _ (viewIn t) f ∙ first-no _ _ (viewIn t) (plain k) e
-
-        pub all-passed : need 7 (agree t) ≡ got tt → looking t ≡ got (viewIn t)
-        all-passed e = whole ∙ next-ok 6 _ _ (viewIn t) f ∙ first-ok _ _ (viewIn t) e ∙ none-ok (viewIn t)
+    pub whole : walked t ≡ got (blocksIn t) → looking t ≡ inOrder (need 6 (goodFields t) ∷ need 7 (agree t) ∷ []) (viewIn t)
+    whole w = begun ∙ first-ok _ _ (viewIn t) (passed-ok _ _ w)
 
 -- ---- the outcome
 
-module _ (t ats lens made : List ℕ) where
-  pub stopped : (k : ℕ) → looking t ≡ refused (plain k) → Looked t ats lens made (look.Refused k) ats lens made
-  stopped k e =
-      record {
-        answered = sym e;
-        ats-left = sym (afterwards-refused (looking t) (plain k) _ ats e);
-        lens-left = sym (afterwards-refused (looking t) (plain k) _ lens e);
-        made-left = sym (afterwards-refused (looking t) (plain k) _ made e);
-      }
+pub stopped : {t ats lens made : List ℕ} {k : ℕ} → looking t ≡ refused (plain k) → Looked t ats lens made (look.Refused k) ats lens made
+stopped {t} {ats} {lens} {made} {k} e =
+    let same : (new old : List ℕ) → old ≡ afterwards (looking t) new old = λ new old. sym (afterwards-refused (looking t) (plain k) new old e) in
+    record { answered = sym e; ats-left = same _ ats; lens-left = same _ lens; made-left = same _ made }
 
-  module _ (l n c z d : ℕ) (v : Surveyed t l n c z d) (i : ItemParts) (o : OwnerParts) (f : LibraryParts) (g : FieldsOf t i o f) where
-    pub looked : looking t ≡ got (viewIn t) → {ats′ lens′ made′ : List ℕ} {p : Part} → ats′ ≡ atsBy t l i o f → lens′ ≡ lensBy t l i o f
-        → made′ ≡ filled (madeBy t o f) made → p ≡ pieceBy l n z d → Looked t ats lens made (look.Seen (record { count = c; size = z; blocks = p })) ats′ lens′ made′
-    unfolding viewIn placeFrom endFrom
-    looked e a b m q =
-        record {
-          answered = rw (q, ← v .place, v .sized, v .count, v .size, ← v .ends) (sym e);
-          ats-left = a ∙ rw (← v .place, g .item, g .owner, g .library) (sym (afterwards-got (looking t) (viewIn t) _ ats e));
-          lens-left = b ∙ rw (← v .place, g .item, g .owner, g .library) (sym (afterwards-got (looking t) (viewIn t) _ lens e));
-          made-left = m ∙ rw (g .owner, g .library) (sym (afterwards-got (looking t) (viewIn t) _ made e));
-        }
+pub looked : {t ats lens made ats′ lens′ made′ : List ℕ} {l n c z d : ℕ} {i : ItemParts} {o : OwnerParts} {f : LibraryParts} {p : Part} → Surveyed t l n c z d → FieldsOf t i o f
+    → looking t ≡ got (viewIn t) → ats′ ≡ atsBy t l i o f → lens′ ≡ lensBy t l i o f → made′ ≡ filled (madeBy t o f) made → p ≡ pieceBy l n z d
+    → Looked t ats lens made (look.Seen (record { count = c; size = z; blocks = p })) ats′ lens′ made′
+unfolding viewIn placeFrom endFrom
+looked {t} {ats} {lens} {made} v g e a b m q =
+    let new : (new old : List ℕ) → new ≡ afterwards (looking t) new old = λ new old. sym (afterwards-got (looking t) (viewIn t) new old e) in
+    record {
+      answered = rw (q, ← v .place, v .sized, v .count, v .size, ← v .ends) (sym e);
+      ats-left = a ∙ rw (← v .place, g .item, g .owner, g .library) (new _ ats);
+      lens-left = b ∙ rw (← v .place, g .item, g .owner, g .library) (new _ lens);
+      made-left = m ∙ rw (g .owner, g .library) (new _ made);
+    }

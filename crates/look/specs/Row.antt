@@ -3,7 +3,7 @@
 -- the tag: set information, usage, and an ISIL with its hyphen.
 use mathlib.Core.Path.{_≡_}
 use Prim.Native.Nat.{ℕ, _+_, _*_, _≤_}
-use mathlib.Core.Bool.{not, _&&_}
+use mathlib.Core.Bool.{not, _&&_, _||_}
 use mathlib.Core.List.{List, [], _∷_, _++_, map}
 use lib.ListN.{length, getD, take, drop, set}
 use lib.Dec.{eqb}
@@ -96,10 +96,7 @@ madeBy t o l = frontMade t l ++ isilBytes t o l
 -- block or there is none, and the chain has no filler
 unfoldable pub pieceBy : ℕ → ℕ → ℕ → ℕ → Part
 pieceBy library length size end =
-    if eqb size 0 then nowhere else
-    if not (eqb length 0) && not (eqb library 34) then nowhere else
-    if not (eqb (34 + length + size) end) then nowhere else
-    from (34 + length) size
+    if not (eqb size 0) && (eqb length 0 || eqb library 34) && eqb (34 + length + size) end then from (34 + length) size else nowhere
 
 -- ---- what the functions that lay down a row rely on
 

@@ -7,20 +7,11 @@ use Rattle.format.proofs.Strings.{is-empty, not-empty}
 use Rattle.fields.proofs.alternative.Statement.{statement}
 use Rattle.fields.proofs.alternative.Tie as tie
 
-byte-at-requires : tie.Need-byte-at-requires
-byte-at-requires c κs = search needs
-
-within-requires : tie.Need-within-requires
-within-requires c κs = search needs
-
 returns : tie.Need-returns
 unfolding alternative
 returns c =
     let k = c .before in
     simp (sym (k .before .byte-at .ensures), sym (k .within .ensures), not-true (k .within .result) (c .if1 .taken))
-
-from-requires : tie.Need-from-requires
-from-requires c κs = search needs
 
 returns-2 : tie.Need-returns-2
 unfolding alternative
@@ -34,9 +25,6 @@ returns-2 c =
       sym (w .from .ensures),
       is-empty (w .from .result .now) (c .if2 .taken),
     )
-
-text-requires : tie.Need-text-requires
-text-requires c κs = search needs
 
 returns-3 : tie.Need-returns-3
 unfolding alternative
@@ -54,5 +42,4 @@ returns-3 c =
 
 pub alternative-spec : {M : Type 1} → statement M
 alternative-spec =
-    tie.close
-    (tie.spec byte-at-requires within-requires returns from-requires returns-2 text-requires returns-3)
+    tie.close (tie.spec (λ c κs. search needs) (λ c κs. search needs) returns (λ c κs. search needs) returns-2 (λ c κs. search needs) returns-3)

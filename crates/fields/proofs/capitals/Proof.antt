@@ -18,24 +18,12 @@ abbrev μ-loop : tie.MeasureT-loop
 loop-holds : tie.Need-loop-holds Inv-loop μ-loop
 loop-holds c = passing-start capital (c .before .args .s .now)
 
-shared-slice-read-within : tie.Need-shared-slice-read-within Inv-loop μ-loop
-shared-slice-read-within c = search needs
-
-within-requires : tie.Need-within-requires Inv-loop μ-loop
-within-requires c κs = search needs
-
 returns : tie.Need-returns Inv-loop μ-loop
 unfolding capital
 returns c =
     let k = c .before .before .before .before in
     passing-not capital (k .before .before .args .s .now) (k .loop .i) (k .loop .inv) (c .before .before .before .loop-test .taken)
     (sym (c .before .within .ensures) ∙ not-true _ (c .if1 .taken))
-
-add-i : tie.Need-add-i Inv-loop μ-loop
-add-i c = search needs
-
-loop-less : tie.Need-loop-less Inv-loop μ-loop
-loop-less c = search needs
 
 loop-again : tie.Need-loop-again Inv-loop μ-loop
 unfolding capital
@@ -51,4 +39,5 @@ returns-2 c = passing-all capital (c .before .before .before .args .s .now) (c .
 pub capitals-spec : {M : Type 1} → statement M
 capitals-spec =
     tie.close
-    (tie.spec Inv-loop μ-loop loop-holds shared-slice-read-within within-requires returns add-i loop-less loop-again returns-2)
+    (tie.spec Inv-loop μ-loop loop-holds (λ c. search needs) (λ c κs. search needs) returns (λ c. search needs) (λ c. search needs) loop-again
+    returns-2)

@@ -8,15 +8,6 @@ use borrow.Author.Needs.{needs}
 use Rattle.fields.proofs.front.Statement.{statement}
 use Rattle.fields.proofs.front.Tie as tie
 
-sub-result : tie.Need-sub-result
-sub-result c = search needs
-
-part-result-start : tie.Need-part-result-start
-part-result-start c = search needs
-
-part-result-end : tie.Need-part-result-end
-part-result-end c = search needs
-
 returns : tie.Need-returns
 returns c = ap (λ (n : ℕ). take n (c .before .before .args .s .now)) (sub-zero (c .before .before .args .n))
 
@@ -24,4 +15,4 @@ returns-2 : tie.Need-returns-2
 returns-2 c = sym (take-all (c .before .args .n) (c .before .args .s .now) (c .if1 .left))
 
 pub front-spec : {M : Type 1} → statement M
-front-spec = tie.close (tie.spec sub-result part-result-start part-result-end returns returns-2)
+front-spec = tie.close (tie.spec (λ c. search needs) (λ c. search needs) (λ c. search needs) returns returns-2)

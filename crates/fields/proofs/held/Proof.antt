@@ -7,16 +7,10 @@ use borrow.Author.Needs.{needs}
 use Rattle.fields.proofs.held.Statement.{statement}
 use Rattle.fields.proofs.held.Tie as tie
 
-stripped-requires : tie.Need-stripped-requires
-stripped-requires c κs = search needs
-
-front-requires : tie.Need-front-requires
-front-requires c κs = search needs
-
 returns : tie.Need-returns
 returns c =
     let s = c .before .before .before .args .s .now in
     c .front .ensures ∙ ap (λ (n : ℕ). take n s) (c .before .stripped .ensures) ∙ sym (strip-take s)
 
 pub held-spec : {M : Type 1} → statement M
-held-spec = tie.close (tie.spec stripped-requires front-requires returns)
+held-spec = tie.close (tie.spec (λ c κs. search needs) (λ c κs. search needs) returns)

@@ -28,11 +28,8 @@ one (x ∷ y ∷ s) h = absurd (omega arith)
 returns : tie.Need-returns
 returns c = sym (not-one (c .before .args .s .now) (c .if1 .taken))
 
-shared-slice-read-result : tie.Need-shared-slice-read-result
-shared-slice-read-result c = search needs
-
 returns-2 : tie.Need-returns-2
 returns-2 c = sym (one (c .before .before .args .s .now) (c .before .if1 .left))
 
 pub is-marker-spec : {M : Type 1} → statement M
-is-marker-spec = tie.close (tie.spec returns shared-slice-read-result returns-2)
+is-marker-spec = tie.close (tie.spec returns (λ c. search needs) returns-2)

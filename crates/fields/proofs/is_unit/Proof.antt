@@ -15,24 +15,15 @@ signs : (b : ℕ) → between 0x41 0x5A b ≡ false → between 0x61 0x7A b ≡ 
 unfolding unitByte capital
 signs b large small digit = simp (large, small, digit)
 
-within-requires : tie.Need-within-requires
-within-requires c κs = search needs
-
 returns : tie.Need-returns
 unfolding unitByte capital
 returns c = simp (sym (c .before .within .ensures) ∙ c .if1 .taken)
-
-within-requires-2 : tie.Need-within-requires-2
-within-requires-2 c κs = search needs
 
 returns-2 : tie.Need-returns-2
 unfolding unitByte capital
 returns-2 c =
     let l = c .before .before in
     simp (sym (l .before .within .ensures) ∙ l .if1 .left, sym (c .before .within2 .ensures) ∙ c .if2 .taken)
-
-within-requires-3 : tie.Need-within-requires-3
-within-requires-3 c κs = search needs
 
 returns-3 : tie.Need-returns-3
 unfolding unitByte capital
@@ -66,4 +57,4 @@ returns-6 c = sym (other (c .before .before) ∙ simp (ne-eqb _ _ (c .before .if
 pub is-unit-spec : {M : Type 1} → statement M
 is-unit-spec =
     tie.close
-    (tie.spec within-requires returns within-requires-2 returns-2 within-requires-3 returns-3 returns-4 returns-5 returns-6)
+    (tie.spec (λ c κs. search needs) returns (λ c κs. search needs) returns-2 (λ c κs. search needs) returns-3 returns-4 returns-5 returns-6)

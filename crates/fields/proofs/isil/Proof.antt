@@ -5,18 +5,9 @@ use borrow.Author.Needs.{needs}
 use Rattle.fields.proofs.isil.Statement.{statement}
 use Rattle.fields.proofs.isil.Tie as tie
 
-up-to-requires : tie.Need-up-to-requires
-up-to-requires c κs = search needs
-
-past-requires : tie.Need-past-requires
-past-requires c κs = search needs
-
-isil-of-requires : tie.Need-isil-of-requires
-isil-of-requires c κs = search needs
-
 returns : tie.Need-returns
 unfolding isil
 returns c = c .isil-of .ensures ∙ ap₂ isilOf (c .before .before .up-to .ensures) (c .before .past .ensures)
 
 pub isil-spec : {M : Type 1} → statement M
-isil-spec = tie.close (tie.spec up-to-requires past-requires isil-of-requires returns)
+isil-spec = tie.close (tie.spec (λ c κs. search needs) (λ c κs. search needs) (λ c κs. search needs) returns)

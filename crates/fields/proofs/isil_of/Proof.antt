@@ -24,9 +24,6 @@ returns-2 : tie.Need-returns-2
 unfolding isilOf
 returns-2 c = simp (le-leb _ _ (c .before .if1 .left), lt-leb _ _ (c .if2 .taken))
 
-capitals-requires : tie.Need-capitals-requires
-capitals-requires c κs = search needs
-
 returns-3 : tie.Need-returns-3
 unfolding isilOf
 returns-3 c =
@@ -53,14 +50,10 @@ returns-4 c = sym (prefix-stands (c .before) ∙ simp (lt-leb _ _ (c .if4 .taken
 returns-5 : tie.Need-returns-5
 returns-5 c = sym (prefix-stands (c .before .before) ∙ simp (le-leb _ _ (c .before .if4 .left), lt-leb _ _ (c .if5 .taken)))
 
-units-requires : tie.Need-units-requires
-units-requires c κs = search needs
-
 returns-6 : tie.Need-returns-6
 returns-6 c =
     let u = c .before in
     sym (prefix-stands (u .before .before) ∙ simp (le-leb _ _ (u .before .if4 .left), le-leb _ _ (u .if5 .left)) (sym (c .units .ensures)))
 
 pub isil-of-spec : {M : Type 1} → statement M
-isil-of-spec =
-    tie.close (tie.spec returns returns-2 capitals-requires returns-3 returns-4 returns-5 units-requires returns-6)
+isil-of-spec = tie.close (tie.spec returns returns-2 (λ c κs. search needs) returns-3 returns-4 returns-5 (λ c κs. search needs) returns-6)

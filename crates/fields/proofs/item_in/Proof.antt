@@ -26,17 +26,8 @@ module _ (f t : List ℕ) (e : t ≡ strip f) where
   unfolding itemForm itemParts goodItem
   by-none m x = rw (← e, m, x)
 
-held-requires : tie.Need-held-requires
-held-requires c κs = search needs
-
-is-marker-requires : tie.Need-is-marker-requires
-is-marker-requires c κs = search needs
-
 returns : tie.Need-returns
 returns c = by-marker _ _ (c .before .before .held .ensures) (sym (c .before .is-marker .ensures) ∙ c .if1 .taken)
-
-text-requires : tie.Need-text-requires
-text-requires c κs = search needs
 
 returns-2 : tie.Need-returns-2
 returns-2 c =
@@ -49,5 +40,4 @@ returns-3 c =
     by-none _ _ (m .before .before .held .ensures) (sym (m .before .is-marker .ensures) ∙ m .if1 .left) (sym (c .before .text .ensures) ∙ c .if2 .left)
 
 pub item-in-spec : {M : Type 1} → statement M
-item-in-spec =
-    tie.close (tie.spec held-requires is-marker-requires returns text-requires returns-2 returns-3)
+item-in-spec = tie.close (tie.spec (λ c κs. search needs) (λ c κs. search needs) returns (λ c κs. search needs) returns-2 returns-3)

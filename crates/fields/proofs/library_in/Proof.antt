@@ -33,27 +33,6 @@ stands : {a b c : Bool} {m n m′ n′ i o : ℕ} → a ≡ true → b ≡ true 
     ≡ Good (record { media = m; item = i; owner = o; usage = n })
 stands a b c m n = rw (a, b, c, m, n)
 
-from-requires : tie.Need-from-requires
-from-requires c κs = search needs
-
-held-requires : tie.Need-held-requires
-held-requires c κs = search needs
-
-from-requires-2 : tie.Need-from-requires-2
-from-requires-2 c κs = search needs
-
-up-to-requires : tie.Need-up-to-requires
-up-to-requires c κs = search needs
-
-past-requires : tie.Need-past-requires
-past-requires c κs = search needs
-
-up-to-requires-2 : tie.Need-up-to-requires-2
-up-to-requires-2 c κs = search needs
-
-past-requires-2 : tie.Need-past-requires-2
-past-requires-2 c κs = search needs
-
 in-hand : (c : tie.After-past2)
     → let i = c .before .before .before in
     let p = i .before .before in
@@ -68,17 +47,11 @@ in-hand c =
 returns : tie.Need-returns
 returns c = sym (in-hand (c .before) ∙ simp (lt-leb _ _ (c .if1 .taken)))
 
-text-requires : tie.Need-text-requires
-text-requires c κs = search needs
-
 returns-2 : tie.Need-returns-2
 returns-2 c =
     let t = c .before in
     sym (in-hand (t .before .before)
     ∙ simp (le-leb _ _ (t .before .if1 .left), sym (t .text .ensures), not-true (t .text .result) (c .if2 .taken)))
-
-owner-stands-requires : tie.Need-owner-stands-requires
-owner-stands-requires c κs = search needs
 
 returns-3 : tie.Need-returns-3
 returns-3 c =
@@ -92,12 +65,6 @@ returns-3 c =
       sym (o .owner-stands .ensures),
       not-true (o .owner-stands .result) (c .if3 .taken),
     ))
-
-byte-at-requires : tie.Need-byte-at-requires
-byte-at-requires c κs = search needs
-
-byte-at-requires-2 : tie.Need-byte-at-requires-2
-byte-at-requires-2 c κs = search needs
 
 returns-4 : tie.Need-returns-4
 returns-4 c =
@@ -115,5 +82,6 @@ returns-4 c =
 pub library-in-spec : {M : Type 1} → statement M
 library-in-spec =
     tie.close
-    (tie.spec from-requires held-requires from-requires-2 up-to-requires past-requires up-to-requires-2 past-requires-2 returns
-    text-requires returns-2 owner-stands-requires returns-3 byte-at-requires byte-at-requires-2 returns-4)
+    (tie.spec (λ c κs. search needs) (λ c κs. search needs) (λ c κs. search needs) (λ c κs. search needs) (λ c κs. search needs)
+    (λ c κs. search needs) (λ c κs. search needs) returns (λ c κs. search needs) returns-2 (λ c κs. search needs) returns-3 (λ c κs. search needs)
+    (λ c κs. search needs) returns-4)

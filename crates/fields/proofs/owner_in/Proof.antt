@@ -49,33 +49,12 @@ module _ {f t s : List ℕ} {n : ℕ} (p : Third f t s n) where
   unfolding ownerForm ownerParts goodOwner
   by-isil l e i h = rw (← p .holds, ← p .rest, not-empty t (p .some), p .unmarked, ← p .byte, lt-leb n 3 l, ← e, h)
 
-held-requires : tie.Need-held-requires
-held-requires c κs = search needs
-
-from-requires : tie.Need-from-requires
-from-requires c κs = search needs
-
-is-marker-requires : tie.Need-is-marker-requires
-is-marker-requires c κs = search needs
-
-good-owner-requires : tie.Need-good-owner-requires
-good-owner-requires c κs = search needs
-
 returns : tie.Need-returns
 returns c =
     let s = c .before .before in
     c .good-owner .ensures
     ∙ ⊎-elim (λ w. by-none _ _ _ (s .before .held .ensures) (s .from .ensures) (w .taken))
     (λ w. by-marker _ _ _ (s .before .held .ensures) (s .from .ensures) (w .0 .left) (sym (w .1 .ensures) ∙ w .2 .taken)) (c .before .if1 .came)
-
-byte-at-requires : tie.Need-byte-at-requires
-byte-at-requires c κs = search needs
-
-alternative-requires : tie.Need-alternative-requires
-alternative-requires c κs = search needs
-
-good-owner-requires-2 : tie.Need-good-owner-requires-2
-good-owner-requires-2 c κs = search needs
 
 third : (c : tie.After-byte-at)
     → let s = c .before .before .before .before in
@@ -100,15 +79,6 @@ returns-3 c =
     let a = c .before in
     by-other (third (a .before .before)) (a .before .if3 .taken) false (sym (a .alternative .ensures) ∙ c .if4 .left)
 
-prefix-in-requires : tie.Need-prefix-in-requires
-prefix-in-requires c κs = search needs
-
-isil-of-requires : tie.Need-isil-of-requires
-isil-of-requires c κs = search needs
-
-good-owner-requires-3 : tie.Need-good-owner-requires-3
-good-owner-requires-3 c κs = search needs
-
 returns-4 : tie.Need-returns-4
 returns-4 c =
     let i = c .before .before in
@@ -124,5 +94,6 @@ returns-5 c =
 pub owner-in-spec : {M : Type 1} → statement M
 owner-in-spec =
     tie.close
-    (tie.spec held-requires from-requires is-marker-requires good-owner-requires returns byte-at-requires alternative-requires good-owner-requires-2
-    returns-2 returns-3 prefix-in-requires isil-of-requires good-owner-requires-3 returns-4 returns-5)
+    (tie.spec (λ c κs. search needs) (λ c κs. search needs) (λ c κs. search needs) (λ c κs. search needs) returns (λ c κs. search needs)
+    (λ c κs. search needs) (λ c κs. search needs) returns-2 returns-3 (λ c κs. search needs) (λ c κs. search needs) (λ c κs. search needs) returns-4
+    returns-5)

@@ -10,15 +10,6 @@ returns : tie.Need-returns
 unfolding isOwner
 returns c = simp (is-empty (c .before .before .args .owner .now) (c .if1 .taken))
 
-byte-at-requires : tie.Need-byte-at-requires
-byte-at-requires c κs = search needs
-
-within-requires : tie.Need-within-requires
-within-requires c κs = search needs
-
-alternative-requires : tie.Need-alternative-requires
-alternative-requires c κs = search needs
-
 returns-2 : tie.Need-returns-2
 unfolding isOwner
 returns-2 c =
@@ -26,9 +17,6 @@ returns-2 c =
     let e = w .before .before in
     simp (not-empty (e .before .before .args .owner .now) (e .if1 .left), sym (w .before .byte-at .ensures), sym (w .within .ensures), c .before .if2 .taken)
     (c .alternative .ensures)
-
-isil-requires : tie.Need-isil-requires
-isil-requires c κs = search needs
 
 returns-3 : tie.Need-returns-3
 unfolding isOwner
@@ -40,5 +28,4 @@ returns-3 c =
 
 pub owner-stands-spec : {M : Type 1} → statement M
 owner-stands-spec =
-    tie.close
-    (tie.spec returns byte-at-requires within-requires alternative-requires returns-2 isil-requires returns-3)
+    tie.close (tie.spec returns (λ c κs. search needs) (λ c κs. search needs) (λ c κs. search needs) returns-2 (λ c κs. search needs) returns-3)

@@ -7,19 +7,10 @@ use borrow.Author.Needs.{needs}
 use Rattle.fields.proofs.past.Statement.{statement}
 use Rattle.fields.proofs.past.Tie as tie
 
-find-requires : tie.Need-find-requires
-find-requires c κs = search needs
-
-from-requires : tie.Need-from-requires
-from-requires c κs = search needs
-
-from-requires-2 : tie.Need-from-requires-2
-from-requires-2 c κs = search needs
-
 returns : tie.Need-returns
 returns c =
     let a = c .before .before .before .before .args in
     c .from2 .ensures ∙ ap (drop 1) (c .before .from .ensures ∙ ap (λ (n : ℕ). drop n (a .s .now)) (c .before .before .find .ensures)) ∙ sym (past-drop (a .b) (a .s .now))
 
 pub past-spec : {M : Type 1} → statement M
-past-spec = tie.close (tie.spec find-requires from-requires from-requires-2 returns)
+past-spec = tie.close (tie.spec (λ c κs. search needs) (λ c κs. search needs) (λ c κs. search needs) returns)

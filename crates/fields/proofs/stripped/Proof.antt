@@ -13,19 +13,10 @@ abbrev μ-loop : tie.MeasureT-loop
 loop-holds : tie.Need-loop-holds Inv-loop μ-loop
 loop-holds c = stripping-start (c .args .s .now)
 
-sub-last : tie.Need-sub-last Inv-loop μ-loop
-sub-last c = search needs
-
-shared-slice-read-if1 : tie.Need-shared-slice-read-if1 Inv-loop μ-loop
-shared-slice-read-if1 c = search needs
-
 returns : tie.Need-returns Inv-loop μ-loop
 returns c =
     let k = c .before .before .before in
     stripping-stop (k .before .args .s .now) (k .loop .n) (k .loop .inv) (c .before .before .loop-test .taken) (c .if1 .taken)
-
-loop-less : tie.Need-loop-less Inv-loop μ-loop
-loop-less c = search needs
 
 loop-again : tie.Need-loop-again Inv-loop μ-loop
 loop-again c =
@@ -37,5 +28,4 @@ returns-2 c = stripping-none (c .before .before .args .s .now) (c .before .loop 
 
 pub stripped-spec : {M : Type 1} → statement M
 stripped-spec =
-    tie.close
-    (tie.spec Inv-loop μ-loop loop-holds sub-last shared-slice-read-if1 returns loop-less loop-again returns-2)
+    tie.close (tie.spec Inv-loop μ-loop loop-holds (λ c. search needs) (λ c. search needs) returns (λ c. search needs) loop-again returns-2)

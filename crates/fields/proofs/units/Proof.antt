@@ -18,24 +18,12 @@ abbrev μ-loop : tie.MeasureT-loop
 loop-holds : tie.Need-loop-holds Inv-loop μ-loop
 loop-holds c = passing-start unitByte (c .before .args .s .now)
 
-shared-slice-read-is-unit : tie.Need-shared-slice-read-is-unit Inv-loop μ-loop
-shared-slice-read-is-unit c = search needs
-
-is-unit-requires : tie.Need-is-unit-requires Inv-loop μ-loop
-is-unit-requires c κs = search needs
-
 returns : tie.Need-returns Inv-loop μ-loop
 unfolding unitByte
 returns c =
     let k = c .before .before .before .before in
     passing-not unitByte (k .before .before .args .s .now) (k .loop .i) (k .loop .inv) (c .before .before .before .loop-test .taken)
     (sym (c .before .is-unit .ensures) ∙ not-true _ (c .if1 .taken))
-
-add-i : tie.Need-add-i Inv-loop μ-loop
-add-i c = search needs
-
-loop-less : tie.Need-loop-less Inv-loop μ-loop
-loop-less c = search needs
 
 loop-again : tie.Need-loop-again Inv-loop μ-loop
 unfolding unitByte
@@ -51,4 +39,5 @@ returns-2 c = passing-all unitByte (c .before .before .before .args .s .now) (c 
 pub units-spec : {M : Type 1} → statement M
 units-spec =
     tie.close
-    (tie.spec Inv-loop μ-loop loop-holds shared-slice-read-is-unit is-unit-requires returns add-i loop-less loop-again returns-2)
+    (tie.spec Inv-loop μ-loop loop-holds (λ c. search needs) (λ c κs. search needs) returns (λ c. search needs) (λ c. search needs) loop-again
+    returns-2)

@@ -7,16 +7,10 @@ use borrow.Author.Needs.{needs}
 use Rattle.fields.proofs.up_to.Statement.{statement}
 use Rattle.fields.proofs.up_to.Tie as tie
 
-find-requires : tie.Need-find-requires
-find-requires c κs = search needs
-
-front-requires : tie.Need-front-requires
-front-requires c κs = search needs
-
 returns : tie.Need-returns
 returns c =
     let a = c .before .before .before .args in
     c .front .ensures ∙ ap (λ (n : ℕ). take n (a .s .now)) (c .before .find .ensures) ∙ sym (up-to-take (a .b) (a .s .now))
 
 pub up-to-spec : {M : Type 1} → statement M
-up-to-spec = tie.close (tie.spec find-requires front-requires returns)
+up-to-spec = tie.close (tie.spec (λ c κs. search needs) (λ c κs. search needs) returns)

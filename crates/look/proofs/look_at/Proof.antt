@@ -1,8 +1,10 @@
 -- What is known past each stage has a name; the stages behind it go on with that.
 use mathlib.Core.Path.{_≡_, sym, ap, _∙_}
 use native.Mathlib.Omega.{arith}
+use mathlib.Core.List.{[], _∷_}
 use borrow.Author.Needs.{needs}
-use Rattle.format.specs.Answers.{got, need}
+use Rattle.format.specs.Answers.{got, plain, need, inOrder}
+use Rattle.format.proofs.Answers.{first-ok, first-no, next-ok, none-ok, passed-no, refused-on}
 use Rattle.format.specs.Numbers.{stageGiven}
 use Rattle.format.specs.Pieces.{Held}
 use Rattle.format.specs.Chain.{libraryBlock}
@@ -10,8 +12,10 @@ use Rattle.format.specs.Reading.{blocksIn, agree}
 use Rattle.chain.specs.Survey.{surveyNumber}
 use Rattle.chain.proofs.Laws.{Surveyed, survey-whole, survey-refused}
 use Rattle.look.specs.Row.{from}
-use Rattle.look.specs.Looking.{basicJudged, fieldsGiven, FieldsOf}
-use Rattle.look.proofs.Steps.{refused-number, fields-of, basic-refused, begun-size, chain-refused, fields-refused, agree-refused, all-passed, stopped, looked}
+use Rattle.look.specs.Looking.{basicJudged, partsOn, fieldsGiven, FieldsOf}
+use Rattle.look.specs.View.{viewIn, looking}
+use Rattle.look.proofs.Steps as steps
+use Rattle.look.proofs.Steps.{refused-number, fields-of, basic-refused, begun-size, stopped, looked}
 use Rattle.look.proofs.Elements.{row-lies}
 use Rattle.look.proofs.look_at.Statement.{statement}
 use Rattle.look.proofs.look_at.Tie as tie
@@ -44,6 +48,9 @@ found c =
     let t = at-start b .args .tag .now in
     fields-of t (begun-size t (begun b)) _ _ _ (sym (ap fieldsGiven (c .before .found .given .1)) ∙ c .before .before .before .find-fields .ensures)
 
+left : (c : tie.After-known-told2) → let t = at-start (past-basic (past-survey c)) .args .tag .now in looking t ≡ inOrder (need 7 (agree t) ∷ []) (viewIn t)
+left c = let w = past-survey c in steps.whole _ (begun (past-basic w)) (whole w .walks) ∙ next-ok 6 _ _ _ (found c .good)
+
 -- past 7
 abbrev past-fields : tie.After-enum-told5 → tie.After-known-told2
 past-fields c = c .before .before .before
@@ -53,57 +60,36 @@ agreed c = sym (c .before .before .agree-stage .ensures) ∙ ap stageGiven (c .e
 
 returns : tie.Need-returns
 returns c =
-    let a = c .before .before .before .before .before .args in
     let r = c .before .before .before .basic-stage in
     let e = refused-number (stageGiven (r .result)) _ _ (ap stageGiven (c .before .enum-told2 .given .1)) (c .stage-number .ensures) in
-    stopped (a .tag .now) (a .ats .now) (a .lens .now) (a .made .now) _ (basic-refused (a .tag .now) _ (sym (r .ensures) ∙ e))
+    stopped (basic-refused _ _ (sym (r .ensures) ∙ e))
 
 returns-2 : tie.Need-returns-2
 returns-2 c =
-    let b = c .before .before .before .before in
-    let a = at-start b .args in
     let told = c .before .enum-told3 .given .1 in
+    let e = survey-refused _ _ (sym (c .before .before .before .survey-of .ensures) ∙ told) in
     rw (c .survey-number .ensures ∙ ap surveyNumber told)
-    (stopped (a .tag .now) (a .ats .now) (a .lens .now) (a .made .now) _
-    (chain-refused (a .tag .now) (begun b) _ (survey-refused (a .tag .now) _ (sym (c .before .before .before .survey-of .ensures) ∙ told))))
+    (stopped (steps.begun _ (begun (c .before .before .before .before)) ∙ first-no _ _ _ (plain _) (passed-no _ (plain _) e)))
 
 returns-3 : tie.Need-returns-3
 returns-3 c =
     let w = c .before .before .before .before in
-    let b = past-basic w in
-    let a = at-start b .args in
     let r = c .before .before .before .find-fields in
     let e = refused-number (fieldsGiven (r .result)) _ _ (ap fieldsGiven (c .before .enum-told4 .given .1)) (c .fields-number .ensures) in
-    stopped (a .tag .now) (a .ats .now) (a .lens .now) (a .made .now) _
-    (fields-refused (a .tag .now) (begun b) (whole w .walks) _ (sym (r .ensures) ∙ e))
+    stopped (steps.whole _ (begun (past-basic w)) (whole w .walks) ∙ refused-on (_ ∷ []) _ (partsOn (at-start (past-basic w) .args .tag .now)) _ (plain _) (sym (r .ensures) ∙ e))
 
 returns-4 : tie.Need-returns-4
 returns-4 c =
-    let f = c .before .before .before .before in
-    let w = past-survey f in
-    let b = past-basic w in
-    let a = at-start b .args in
     let r = c .before .before .before .agree-stage in
     let e = refused-number (stageGiven (r .result)) _ _ (ap stageGiven (c .before .enum-told6 .given .1)) (c .stage-number2 .ensures) in
-    stopped (a .tag .now) (a .ats .now) (a .lens .now) (a .made .now) _
-    (agree-refused (a .tag .now) (begun b) (whole w .walks) (found f .good) _ (sym (r .ensures) ∙ e))
-
-one-piece-requires : tie.Need-one-piece-requires
-one-piece-requires c κs =
-    let w = past-survey (past-fields (c .before .before .before .before)) in
-    let b = past-basic w in
-    omega (arith, whole w .room, begun-size (at-start b .args .tag .now) (begun b) .most)
+    stopped (left (c .before .before .before .before) ∙ first-no _ _ _ (plain _) (sym (r .ensures) ∙ e))
 
 returns-5 : tie.Need-returns-5
 returns-5 c =
     let p = c .before .before .before .before .before in
     let f = past-fields p in
-    let w = past-survey f in
-    let b = past-basic w in
-    let a = at-start b .args in
-    let t = a .tag .now in
     let r = c .before .fill-row .ensures in
-    looked t (a .ats .now) (a .lens .now) (a .made .now) _ _ _ _ _ (whole w) _ _ _ (found f) (all-passed t (begun b) (whole w .walks) (found f .good) (agreed p)) (r .0) (r .1) (r .2) (c .one-piece .ensures)
+    looked (whole (past-survey f)) (found f) (left f ∙ first-ok _ _ _ (agreed p) ∙ none-ok _) (r .0) (r .1) (r .2) (c .one-piece .ensures)
 
 pub look-at-spec : {M : Type 1} → statement M
 look-at-spec =
@@ -112,5 +98,5 @@ look-at-spec =
     (λ c. search needs) (λ c. search needs) (λ c κs. search needs) returns-2
     (λ c κs. let b = past-basic c in (begun-size (at-start b .args .tag .now) (begun b), block c)) (λ c. search needs) (λ c. search needs)
     (λ c κs. search needs) returns-3 (λ c κs. found c) (λ c. search needs) (λ c. search needs) (λ c κs. search needs) returns-4
-    (λ c κs. let f = past-fields (c .before .before .before) in row-lies _ (from _ _) (block (past-survey f)) _ _ _ (found f)) one-piece-requires
-    returns-5)
+    (λ c κs. let f = past-fields (c .before .before .before) in row-lies _ (from _ _) (block (past-survey f)) _ _ _ (found f))
+    (λ c κs. let f = past-fields (c .before .before .before .before) in omega (arith, whole (past-survey f) .room, found f .sized .most)) returns-5)

@@ -1,68 +1,76 @@
 -- What each field gives is a step of `goodFields`.
 use mathlib.Core.Path.{_≡_, sym, ap, _∙_}
+use mathlib.Core.List.{[], _∷_}
 use borrow.Author.Needs.{needs}
-use Rattle.format.specs.Answers.{got}
+use borrow.Author.Tests.{le-leb, lt-leb}
+use Rattle.format.specs.Answers.{got, plain, inOrder, passed}
+use Rattle.format.specs.Reading.{goodFields}
+use Rattle.format.proofs.Answers.{first-ok, first-no, next-ok, next-no, none-ok, passed-ok, passed-no}
 use Rattle.fields.specs.Forms.{itemGiven, ownerGiven, libraryForm, libraryGiven}
 use Rattle.look.specs.Looking.{partsOn}
 use Rattle.look.proofs.Standing.{held-cut}
-use Rattle.look.proofs.Steps.{refused-number, itemSeen, ownerSeen, librarySeen, ordinal-no, item-no, owner-no, library-no, fields-found}
+use Rattle.look.proofs.Steps.{refused-number, foundIf, itemSeen, ownerSeen, librarySeen, fields-each, fields-found}
 use Rattle.look.proofs.library.find_fields.Statement.{statement}
 use Rattle.look.proofs.library.find_fields.Tie as tie
 
--- the place past the ordinal's test
+-- past the ordinal, the item and the owner: which steps are left
+abbrev at-start : tie.Else1 → tie.Start
+at-start c = c .before .before .before .before
+
+item-left : (c : tie.Else1) → let t = at-start c .args .tag .now in foundIf (goodFields t) (partsOn t) ≡ inOrder (passed (itemSeen t) ∷ passed (ownerSeen t) ∷ passed (librarySeen t) ∷ []) (partsOn t)
+item-left c = let t = at-start c .args .tag .now in fields-each t (partsOn t) ∙ next-ok 6 _ _ (partsOn t) (le-leb _ _ (c .if1 .left))
+
 abbrev past-ordinal : tie.After-known-told → tie.Else1
 past-ordinal c = c .before .before .before .before
 
-item-got : (c : tie.After-known-told) → itemSeen (past-ordinal c .before .before .before .before .args .tag .now) ≡ got (c .before .found-item .given .0 .0)
+item-got : (c : tie.After-known-told) → itemSeen (at-start (past-ordinal c) .args .tag .now) ≡ got (c .before .found-item .given .0 .0)
 item-got c = sym (ap itemGiven (c .before .before .before .item-field .ensures)) ∙ ap itemGiven (c .before .found-item .given .1)
 
-owner-got : (c : tie.After-known-told2) → ownerSeen (past-ordinal (c .before .before .before .before) .before .before .before .before .args .tag .now) ≡ got (c .before .found-owner .given .0 .0)
+owner-left : (c : tie.After-known-told) → let t = at-start (past-ordinal c) .args .tag .now in foundIf (goodFields t) (partsOn t) ≡ inOrder (passed (ownerSeen t) ∷ passed (librarySeen t) ∷ []) (partsOn t)
+owner-left c = item-left (past-ordinal c) ∙ first-ok _ _ _ (passed-ok _ _ (item-got c))
+
+abbrev past-item : tie.After-known-told2 → tie.After-known-told
+past-item c = c .before .before .before .before
+
+owner-got : (c : tie.After-known-told2) → ownerSeen (at-start (past-ordinal (past-item c)) .args .tag .now) ≡ got (c .before .found-owner .given .0 .0)
 owner-got c = sym (ap ownerGiven (c .before .before .before .owner-field .ensures)) ∙ ap ownerGiven (c .before .found-owner .given .1)
 
-library-is : (c : tie.After-library-in)
-    → libraryGiven (c .library-in .result) ≡ librarySeen (past-ordinal (c .before .before .before .before .before .before .before) .before .before .before .before .args .tag .now)
-library-is c =
-    let s = past-ordinal (c .before .before .before .before .before .before .before) .before .before .before .before in
-    ap libraryGiven (c .library-in .ensures ∙ ap libraryForm (held-cut (s .pre .1)))
+library-left : (c : tie.After-known-told2) → let t = at-start (past-ordinal (past-item c)) .args .tag .now in foundIf (goodFields t) (partsOn t) ≡ inOrder (passed (librarySeen t) ∷ []) (partsOn t)
+library-left c = owner-left (past-item c) ∙ first-ok _ _ _ (passed-ok _ _ (owner-got c))
+
+abbrev past-owner : tie.After-library-in → tie.After-known-told2
+past-owner c = c .before .before .before
+
+library-is : (c : tie.After-library-in) → libraryGiven (c .library-in .result) ≡ librarySeen (at-start (past-ordinal (past-item (past-owner c))) .args .tag .now)
+library-is c = ap libraryGiven (c .library-in .ensures ∙ ap libraryForm (held-cut (at-start (past-ordinal (past-item (past-owner c))) .pre .1)))
 
 returns : tie.Need-returns
-returns c = let t = c .before .before .before .before .args .tag .now in ordinal-no t (partsOn t) (c .if1 .taken)
+returns c = let t = c .before .before .before .before .args .tag .now in sym (fields-each t (partsOn t) ∙ next-no 6 _ _ (partsOn t) (lt-leb _ _ (c .if1 .taken)))
 
 returns-2 : tie.Need-returns-2
 returns-2 c =
-    let o = c .before .before .before .before in
-    let t = o .before .before .before .before .args .tag .now in
     let r = c .before .before .before .item-field in
-    item-no t (partsOn t) (o .if1 .left) _
-    (sym (ap itemGiven (r .ensures)) ∙ refused-number (itemGiven (r .result)) _ _ (ap itemGiven (c .before .enum-told .given .1)) (c .item-number .ensures))
+    let e = refused-number (itemGiven (r .result)) _ _ (ap itemGiven (c .before .enum-told .given .1)) (c .item-number .ensures) in
+    sym (item-left (c .before .before .before .before) ∙ first-no _ _ _ (plain _) (passed-no _ (plain _) (sym (ap itemGiven (r .ensures)) ∙ e)))
 
 returns-3 : tie.Need-returns-3
 returns-3 c =
-    let i = c .before .before .before .before in
-    let o = past-ordinal i in
-    let t = o .before .before .before .before .args .tag .now in
     let r = c .before .before .before .owner-field in
-    owner-no t (partsOn t) (o .if1 .left) _ (item-got i) _
-    (sym (ap ownerGiven (r .ensures)) ∙ refused-number (ownerGiven (r .result)) _ _ (ap ownerGiven (c .before .enum-told2 .given .1)) (c .owner-number .ensures))
+    let e = refused-number (ownerGiven (r .result)) _ _ (ap ownerGiven (c .before .enum-told2 .given .1)) (c .owner-number .ensures) in
+    sym (owner-left (c .before .before .before .before) ∙ first-no _ _ _ (plain _) (passed-no _ (plain _) (sym (ap ownerGiven (r .ensures)) ∙ e)))
 
 returns-4 : tie.Need-returns-4
 returns-4 c =
-    let w = c .before .before .before .before .before .before in
-    let i = w .before .before .before .before in
-    let o = past-ordinal i in
-    let t = o .before .before .before .before .args .tag .now in
-    let r = c .before .before .before .library-in in
-    library-no t (partsOn t) (o .if1 .left) _ (item-got i) _ (owner-got w) _
-    (sym (library-is (c .before .before .before)) ∙ refused-number (libraryGiven (r .result)) _ _ (ap libraryGiven (c .before .enum-told3 .given .1)) (c .library-number .ensures))
+    let l = c .before .before .before in
+    let e = refused-number (libraryGiven (l .library-in .result)) _ _ (ap libraryGiven (c .before .enum-told3 .given .1)) (c .library-number .ensures) in
+    sym (library-left (past-owner l) ∙ first-no _ _ _ (plain _) (passed-no _ (plain _) (sym (library-is l) ∙ e)))
 
 returns-5 : tie.Need-returns-5
 returns-5 c =
-    let w = c .before .before .before .before .before .before in
-    let i = w .before .before .before .before in
-    let o = past-ordinal i in
-    let t = o .before .before .before .before .args .tag .now in
-    let r = c .before .before .before .library-in in
-    fields-found t (o .if1 .left) _ (item-got i) _ (owner-got w) _ (sym (library-is (c .before .before .before)) ∙ ap libraryGiven (c .before .found-library .given .1))
+    let l = c .before .before .before in
+    let o = past-owner l in
+    let e = sym (library-is l) ∙ ap libraryGiven (c .before .found-library .given .1) in
+    fields-found _ _ _ _ (item-got (past-item o)) (owner-got o) e (sym (library-left o ∙ first-ok _ _ _ (passed-ok _ _ e) ∙ none-ok _))
 
 pub find-fields-spec : {M : Type 1} → statement M
 find-fields-spec =

@@ -21,11 +21,6 @@ both : (t : List ℕ) (at : ℕ) (o : OwnerParts) (l : LibraryParts) (a b m : Li
     → isilBy t at o l ≡ isil → Stored a b 6 other a₁ b₁ → Stored a₁ b₁ 1 isil a₂ b₂ → m₁ ≡ stead 5 (isilBytes t o l) m → OwnerHeld t at o l a b m a₂ b₂ m₁
 both t at o l a b m other isil eo ei f g e = record { ats-left = rw (eo, ei, g .0, f .0); lens-left = rw (eo, ei, g .1, f .1); made-left = e }
 
-shared-slice-read-begins-other : tie.Need-shared-slice-read-begins-other
-shared-slice-read-begins-other c =
-    let some = c .before .if1 .taken in
-    omega (arith, some, c .before .before .before .before .pre .block some)
-
 returns : tie.Need-returns
 unfolding isilBy otherBy isilBytes
 returns c =
@@ -61,12 +56,6 @@ returns-3 c =
 isil : (c : tie.Else3) → let a = c .before .before .before .before .before .before .before .before .args in IsilLies (a .tag .now) (a .owner .prefix) (a .owner .isil)
 isil c = c .before .before .before .before .before .before .before .before .pre .field (c .if3 .left)
 
-add-hold-2 : tie.Need-add-hold-2
-add-hold-2 c = let i = isil (c .before .before .before .before .before) in record { fits = omega (arith, i .short) }
-
-add-hold-3 : tie.Need-add-hold-3
-add-hold-3 c = let i = isil (c .before .before .before .before .before .before) in record { fits = omega (arith, i .short, i .fits) }
-
 returns-4 : tie.Need-returns-4
 unfolding isilBy otherBy isilBytes
 returns-4 c =
@@ -82,6 +71,9 @@ returns-4 c =
 pub hold-owner-spec : {M : Type 1} → statement M
 hold-owner-spec =
     tie.close
-    (tie.spec shared-slice-read-begins-other (λ c κs. search needs) (λ c κs. search needs) (λ c κs. search needs) returns (λ c κs. search needs)
-    (λ c κs. search needs) returns-2 (λ c κs. search needs) (λ c κs. search needs) returns-3 (λ c κs. isil (c .before)) (λ c. search needs) add-hold-2
-    add-hold-3 (λ c κs. search needs) returns-4)
+    (tie.spec (λ c. let some = c .before .if1 .taken in omega (arith, some, c .before .before .before .before .pre .block some))
+    (λ c κs. search needs) (λ c κs. search needs) (λ c κs. search needs) returns (λ c κs. search needs) (λ c κs. search needs) returns-2
+    (λ c κs. search needs) (λ c κs. search needs) returns-3 (λ c κs. isil (c .before)) (λ c. search needs)
+    (λ c. let i = isil (c .before .before .before .before .before) in record { fits = omega (arith, i .short) })
+    (λ c. let i = isil (c .before .before .before .before .before .before) in record { fits = omega (arith, i .short, i .fits) })
+    (λ c κs. search needs) returns-4)

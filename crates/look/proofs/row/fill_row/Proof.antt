@@ -17,12 +17,6 @@ items c = first c .before .before .before
 abbrev at-start : tie.After-hold3 → tie.Start
 at-start c = items c .before .before .before .before .before .before
 
-add-hold-owner : tie.Need-add-hold-owner
-add-hold-owner c = let p = at-start c .pre in record { fits = omega (arith, p .begins, p .owner .size) }
-
-add-hold-owner-2 : tie.Need-add-hold-owner-2
-add-hold-owner-2 c = let p = at-start (c .before) .pre in record { fits = omega (arith, p .begins, p .item, p .owner .size) }
-
 returns : tie.Need-returns
 unfolding rowBy
 returns c =
@@ -42,5 +36,6 @@ pub fill-row-spec : {M : Type 1} → statement M
 fill-row-spec =
     tie.close
     (tie.spec (λ c κs. search needs) (λ c κs. search needs) (λ c κs. search needs) (λ c. search needs) (λ c κs. search needs) (λ c. search needs)
-    (λ c κs. search needs) (λ c κs. search needs) add-hold-owner add-hold-owner-2 (λ c κs. at-start (c .before .before .before .before) .pre .owner)
-    returns)
+    (λ c κs. search needs) (λ c κs. search needs) (λ c. let p = at-start c .pre in record { fits = omega (arith, p .begins, p .owner .size) })
+    (λ c. let p = at-start (c .before) .pre in record { fits = omega (arith, p .begins, p .item, p .owner .size) })
+    (λ c κs. at-start (c .before .before .before .before) .pre .owner) returns)

@@ -8,18 +8,14 @@ use Rattle.look.proofs.row.hold_items.Tie as tie
 returns : tie.Need-returns
 unfolding itemBy secondBy
 returns c =
-    let first = c .before .before .before in
-    let f = first .hold .ensures in
-    let g = c .hold2 .ensures in
-    rw (first .before .before .before .if1 .taken, g .0, g .1, f .0, f .1) (refl, refl)
+    let f = c .before .before .before in
+    rw (f .before .before .before .if1 .taken, c .hold2 .ensures .0, c .hold2 .ensures .1, f .hold .ensures .0, f .hold .ensures .1) (refl, refl)
 
 returns-2 : tie.Need-returns-2
 unfolding itemBy secondBy
 returns-2 c =
-    let first = c .before .before .before in
-    let f = first .hold3 .ensures in
-    let g = c .hold4 .ensures in
-    rw (first .before .before .before .if1 .left, g .0, g .1, f .0, f .1) (refl, refl)
+    let f = c .before .before .before in
+    rw (f .before .before .before .if1 .left, c .hold4 .ensures .0, c .hold4 .ensures .1, f .hold3 .ensures .0, f .hold3 .ensures .1) (refl, refl)
 
 pub hold-items-spec : {M : Type 1} → statement M
 hold-items-spec =

@@ -1,7 +1,8 @@
 -- Five bytes are stored one behind the other.
 use native.Mathlib.Omega.{arith}
 use lib.ListN.{length-set}
-use Rattle.look.proofs.Making.{front-set}
+use lib.Seq.{sets-eq}
+use Rattle.look.specs.Row.{frontMade}
 use borrow.Author.Needs.{needs}
 use Rattle.look.proofs.row.make_front.Statement.{statement}
 use Rattle.look.proofs.row.make_front.Tie as tie
@@ -9,7 +10,7 @@ use Rattle.look.proofs.row.make_front.Tie as tie
 returns : tie.Need-returns
 returns c =
     let s = c .before .before .before .before .before in
-    rw (c .usage-of .ensures) (front-set (s .args .made .now) _ _ _ _ _ (s .pre .1))
+    rw (c .usage-of .ensures) (sets-eq (frontMade (s .args .tag .now) (s .args .library)) (s .args .made .now) 0 (omega (arith, s .pre .1)))
 
 pub make-front-spec : {M : Type 1} → statement M
 make-front-spec =

@@ -1,21 +1,20 @@
 -- The tests are the definition's.
 use mathlib.Core.Path.{_≡_, refl}
 use mathlib.Core.Logic.{⊎-elim}
-use Prim.Native.Nat.{ℕ}
-use mathlib.Core.Bool.{false, not, _&&_}
+use mathlib.Core.Bool.{true, _||_}
 use lib.Dec.{eqb}
 use borrow.Author.Needs.{needs}
-use borrow.Author.Tests.{eq-eqb, ne-eqb}
-use Rattle.format.proofs.Tests.{and-no}
+use borrow.Author.Tests.{eq-eqb, ne-eqb, not-true, not-false}
+use Rattle.format.proofs.Tests.{or-r}
 use Rattle.look.specs.Row.{pieceBy}
 use Rattle.look.proofs.row.one_piece.Statement.{statement}
 use Rattle.look.proofs.row.one_piece.Tie as tie
 
 -- block 1 is the first block, or there is none
-first : (c : tie.Joined2) → let a = c .before .before .args in not (eqb (a .length) 0) && not (eqb (a .library) 34) ≡ false
+first : (c : tie.Joined2) → let a = c .before .before .args in eqb (a .length) 0 || eqb (a .library) 34 ≡ true
 first c =
-    let n : ℕ = c .before .before .args .length in
-    ⊎-elim (λ w. and-no (not (eqb n 0)) _ (w .1 .left)) (λ w. rw (w .left)) (c .if2 .came)
+    let a = c .before .before .args in
+    ⊎-elim (λ w. or-r (eqb (a .length) 0) _ (not-false _ (w .1 .left))) (λ w. rw (w .left)) (c .if2 .came)
 
 returns : tie.Need-returns
 unfolding pieceBy
@@ -23,7 +22,7 @@ returns c = rw (eq-eqb _ 0 (c .if1 .taken)) refl
 
 returns-2 : tie.Need-returns-2
 unfolding pieceBy
-returns-2 c = rw (ne-eqb _ 0 (c .before .before .if1 .left), ne-eqb _ 0 (c .before .if2 .taken), c .if3 .taken) refl
+returns-2 c = rw (ne-eqb _ 0 (c .before .before .if1 .left), ne-eqb _ 0 (c .before .if2 .taken), not-true (eqb _ 34) (c .if3 .taken)) refl
 
 returns-3 : tie.Need-returns-3
 unfolding pieceBy
