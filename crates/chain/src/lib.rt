@@ -1,10 +1,8 @@
 // The walker, and the chain of blocks: document 01, "The chain of blocks".
 ghost use mathlib.Core.Path.{_≡_};
-ghost use mathlib.Core.Bool.{not, _&&_};
 ghost use Prim.Native.Nat.{_≤_};
-ghost use lib.ListN.{getD, drop};
-ghost use Rattle.format.specs.Bytes.{xorAll};
-ghost use Rattle.format.specs.Chain.{idOf, wellFormed, isLibrary};
+ghost use lib.ListN.{getD};
+ghost use Rattle.format.specs.Chain.{idOf};
 ghost use Rattle.chain.specs.Part.{thatPart};
 ghost use Rattle.chain.specs.Formed.{formedBy};
 ghost use Rattle.chain.specs.Survey.{surveyOf, surveyNumber};
@@ -111,19 +109,8 @@ pub fn formed_by(block: &[u8], x: u8) -> bool
     x == block[0]
 }
 
-// Is the block well formed, and no second block 1? `seen`: a block 1 came before.
-fn right_block(block: &[u8], x: u8, seen: bool) -> bool
-    requires { ⌜ (idOf (now block) ≤ 100 → x ≡ xorAll (drop 1 (now block))) ⌝ }
-    ensures { λ r. ⌜ r ≡ (wellFormed (now (block .entry)) && not (isLibrary (now (block .entry)) && seen)) ⌝ }
-{
-    if id_of(block) == 1 && seen {
-        return false;
-    }
-    formed_by(block, x)
-}
-
 // Walks the chain from byte 34, from block to block and over the bytes of each structured block for its XOR, and stops
-// altogether at the first damage.
+// altogether at the first damage, a second block 1 among it.
 pub fn survey_of(tag: &[u8]) -> Survey
     ensures { λ r. ⌜ r ≡ surveyOf (now (tag .entry)) ⌝ }
 {
@@ -146,6 +133,10 @@ pub fn survey_of(tag: &[u8]) -> Survey
         let id = id_of(block);
         let mut x: u8 = 0;
         if id <= 100 {
+            if id == 1 && length != 0 {
+                damaged = true;
+                break 'chain;
+            }
             let mut k: usize = 1;
             while k < n {
                 if block.len() <= k {
@@ -156,7 +147,7 @@ pub fn survey_of(tag: &[u8]) -> Survey
                 k += 1;
             }
         }
-        if !right_block(block, x, length != 0) {
+        if !formed_by(block, x) {
             damaged = true;
             break 'chain;
         }

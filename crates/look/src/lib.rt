@@ -55,13 +55,11 @@ pub fn look_at(tag: &[u8], ats: &mut [usize; 7], lens: &mut [usize; 7], made: &m
     else {
         return Look::Refused(chain::survey_number(survey));
     };
-    let found = library::find_fields(
-        tag,
-        Part {
-            at: library,
-            len: length,
-        },
-    );
+    let block = Part {
+        at: library,
+        len: length,
+    };
+    let found = library::find_fields(tag, block);
     let FieldsFound::Good(item, owner, fields) = found else {
         return Look::Refused(library::fields_number(found));
     };

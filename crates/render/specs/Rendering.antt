@@ -33,7 +33,7 @@ headsBy at [] lens = []
 headsBy at (n ∷ ns) [] = []
 headsBy at (n ∷ ns) (len ∷ lens) = (if eqb len 0 then [] else headOf at n len) ∷ headsBy (at + len) ns lens
 
--- how many entries they have, and how many bytes
+-- a sum over their lengths: how many entries they have, and how many bytes
 unfoldable pub sumBy : (ℕ → ℕ) → List ℕ → ℕ
 sumBy f [] = 0
 sumBy f (len ∷ lens) = f len + sumBy f lens

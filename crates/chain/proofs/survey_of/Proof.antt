@@ -1,7 +1,7 @@
 -- `chain::survey_of` meets its contract. The block loop: the survey of what is ahead, with what was found before, is the survey of the tag.
 -- The byte loop: the bytes behind byte k, with the XOR so far, come to the XOR of all behind the first.
 use mathlib.Core.Path.{_≡_, refl, sym, ap, _∙_}
-use mathlib.Core.Logic.{⊎-elim}
+use mathlib.Core.Logic.{inl, inr, ⊎-elim}
 use mathlib.Core.Bool.{Bool, true, false}
 use mathlib.Core.List.{List}
 use Prim.Native.Nat.{ℕ, _+_, _-_, _≤_}
@@ -11,12 +11,14 @@ use lib.ListN.{length, getD, drop, length-take}
 use borrow.Author.Needs.{needs}
 use borrow.Author.Tests.{eq-eqb, ne-eqb, not-true, not-false}
 use Rattle.format.specs.Bytes.{if_then_else_, xorAll}
-use Rattle.format.specs.Chain.{idOf}
+use Rattle.format.specs.Chain.{idOf, wellFormed}
+use Rattle.format.proofs.Tests.{and-left}
 use Rattle.chain.specs.declared.Survey.{Survey}
 use Rattle.chain.specs.declared.Survey.the-variants.{Whole, Refused}
 use Rattle.chain.specs.Survey.{surveyOf}
-use Rattle.chain.proofs.Chain.{right, blockIn, past-end, Stands}
-use Rattle.chain.proofs.Turns.{xor-more, xor-all, seen, SoFar, start, ended, filler, damaged, cut-short, there, library, other, moved}
+use Rattle.chain.proofs.Chain.{blockIn, past-end, Stands, stands}
+use Rattle.chain.proofs.Formed.{formed-well}
+use Rattle.chain.proofs.Turns.{xor-more, xor-all, seen, SoFar, start, ended, filler, damaged, cut-short, second, library, other, moved}
 use Rattle.chain.proofs.survey_of.Statement.{statement}
 use Rattle.chain.proofs.survey_of.Tie as tie
 
@@ -33,17 +35,35 @@ Inv-chain tag at₀ l₀ len₀ count₀ size₀ bad₀ at l len count size bad 
 abbrev μ-chain : tie.MeasureT-chain
 μ-chain tag at₀ l₀ len₀ count₀ size₀ bad₀ at l len count size bad = length tag - at
 
+-- ---- the XOR that a block is judged with
+
+-- the block has no more bytes than its first says
+short : (c : tie.Joined3 Inv-loop μ-loop Inv-chain μ-chain) → length (c .before .before .before .before .before .block-at .result .now) ≤ c .before .before .before .before .byte-at .result
+short c =
+    let t : List ℕ = c .before .before .before .before .before .before .before .before .before .args .tag .now in
+    let at : ℕ = c .before .before .before .before .before .before .before .chain .at in
+    omega (arith, ap length (c .before .before .before .before .before .block-at .ensures .0), length-take (getD t at 0) (drop at t), c .before .before .before .before .byte-at .ensures .0)
+
+summed : (c : tie.Joined3 Inv-loop μ-loop Inv-chain μ-chain) → let b = c .before .before .before .before .before .block-at .result .now in idOf b ≤ 100 → c .if3 .x ≡ xorAll (drop 1 b)
+summed c low =
+    ⊎-elim (λ w. w .5 ∙ xor-all (c .before .before .before .before .before .block-at .result .now) (w .2 .k) (w .2 .x) (omega (arith, w .3 .left, short c)) (w .2 .inv .1))
+    (λ w. absurd (omega (arith, w .0 .left, c .before .id-of .ensures, low))) (c .if3 .came)
+
 -- ---- what is known where a block was judged
 
 two-at-least : (n g : ℕ) → n ≡ g → (n ≡ 0 → ⊥) → (n ≡ 1 → ⊥) → 2 ≤ g
 two-at-least n g e h k = omega arith
 
-module _ (c : tie.Else5 Inv-loop μ-loop Inv-chain μ-chain) where
+module _ (c : tie.Else7 Inv-loop μ-loop Inv-chain μ-chain) where
+  -- where the turn began
+  abbrev turn : tie.At-chain Inv-loop μ-loop Inv-chain μ-chain
+  turn = c .before .before .before .before .before .before .before .before .before
+
   abbrev tag : List ℕ
-  tag = c .before .before .before .before .before .before .before .before .before .before .before .args .tag .now
+  tag = turn .before .before .args .tag .now
 
   abbrev at : ℕ
-  at = c .before .before .before .before .before .before .before .before .before .chain .at
+  at = turn .chain .at
 
   -- the number that the block's first byte is, and the block
   size : c .before .before .before .before .before .before .byte-at .result ≡ getD tag at 0
@@ -58,30 +78,28 @@ module _ (c : tie.Else5 Inv-loop μ-loop Inv-chain μ-chain) where
   two : 2 ≤ getD tag at 0
   two = two-at-least _ _ size (c .before .before .before .before .before .if1 .left) (c .before .before .before .before .if2 .left)
 
-  good : right (seen (c .before .before .before .before .before .before .before .before .before .chain .length)) (blockIn tag at) ≡ true
-  good = sym (ap (right (seen (c .before .before .before .before .before .before .before .before .before .chain .length))) is) ∙ sym (c .before .right-block .ensures) ∙ not-false _ (c .if5 .left)
+  well : wellFormed (blockIn tag at) ≡ true
+  well =
+      sym (ap wellFormed is) ∙ sym (formed-well (c .before .before .before .before .before .before .before .block-at .result .now) (c .before .before .if3 .x) (summed (c .before .before)))
+      ∙ sym (c .before .formed-by .ensures) ∙ not-false _ (c .if7 .left)
 
   stands-here : Stands tag at
-  stands-here = there tag at _ _ _ _ (c .before .before .before .before .before .before .before .before .before .chain .inv .1) two good
+  stands-here = stands tag at well
+
+  -- no block 1 came before a block 1
+  single : c .before .before .before .id-of .result ≡ 1 → seen (turn .chain .length) ≡ false
+  single e = ⊎-elim (λ w. ⊎-elim (λ v. v .1 .left) (λ v. absurd (v .left e)) (w .1 .came)) (λ w. absurd (omega (arith, w .0 .left, e))) (c .before .before .if3 .came)
 
   -- what is found with block 1, and with another
-  with-library : c .before .before .before .id-of .result ≡ 1 → SoFar tag (at + getD tag at 0) at (getD tag at 0) (c .before .before .before .before .before .before .before .before .before .chain .count) (c .before .before .before .before .before .before .before .before .before .chain .size)
-  with-library e = library tag at _ _ _ _ (c .before .before .before .before .before .before .before .before .before .chain .inv .1) two good (eq-eqb (idOf (blockIn tag at)) 1 (sym id-is ∙ e))
+  with-library : c .before .before .before .id-of .result ≡ 1 → SoFar tag (at + getD tag at 0) at (getD tag at 0) (turn .chain .count) (turn .chain .size)
+  with-library e = library tag at _ _ _ _ (turn .chain .inv .1) two well (eq-eqb (idOf (blockIn tag at)) 1 (sym id-is ∙ e)) (single e)
 
-  with-other : (c .before .before .before .id-of .result ≡ 1 → ⊥)
-      → SoFar tag (at + getD tag at 0) (c .before .before .before .before .before .before .before .before .before .chain .library) (c .before .before .before .before .before .before .before .before .before .chain .length) (c .before .before .before .before .before .before .before .before .before .chain .count + 1) (c .before .before .before .before .before .before .before .before .before .chain .size + getD tag at 0)
-  with-other e = other tag at _ _ _ _ (c .before .before .before .before .before .before .before .before .before .chain .inv .1) two good (ne-eqb (idOf (blockIn tag at)) 1 (λ h. e (id-is ∙ h)))
+  with-other : (c .before .before .before .id-of .result ≡ 1 → ⊥) → SoFar tag (at + getD tag at 0) (turn .chain .library) (turn .chain .length) (turn .chain .count + 1) (turn .chain .size + getD tag at 0)
+  with-other e = other tag at _ _ _ _ (turn .chain .inv .1) two well (ne-eqb (idOf (blockIn tag at)) 1 (λ h. e (id-is ∙ h)))
 
   -- the byte loop, if there was one, found no damage
   unharmed : c .before .before .if3 .damaged ≡ false
-  unharmed = ⊎-elim (λ w. w .3 ∙ w .1 .inv .0) (λ w. w .1 ∙ c .before .before .before .before .before .before .before .before .before .chain .inv .0) (c .before .before .if3 .came)
-
--- the block has no more bytes than its first says
-short : (c : tie.Joined3 Inv-loop μ-loop Inv-chain μ-chain) → length (c .before .before .before .before .before .block-at .result .now) ≤ c .before .before .before .before .byte-at .result
-short c =
-    let t : List ℕ = c .before .before .before .before .before .before .before .before .before .args .tag .now in
-    let at : ℕ = c .before .before .before .before .before .before .before .chain .at in
-    omega (arith, ap length (c .before .before .before .before .before .block-at .ensures .0), length-take (getD t at 0) (drop at t), c .before .before .before .before .byte-at .ensures .0)
+  unharmed = ⊎-elim (λ w. w .4 ∙ w .2 .inv .0) (λ w. w .1 ∙ turn .chain .inv .0) (c .before .before .if3 .came)
 
 -- ---- the ways out
 
@@ -99,14 +117,27 @@ left-rightly c =
     let t : List ℕ = c .before .before .before .args .tag .now in
     let at : ℕ = c .before .chain .at in
     let i = c .before .chain .inv in
-    let n : ℕ = c .before .chain .length in
-    ⊎-elim (λ w. so _ _ (w .1 ∙ i .0) (ended t at _ _ _ _ (i .1) (past-end t at (w .0 .left))))
-    (⊎-elim (λ w. so _ _ (w .4 ∙ i .0) (ended t at _ _ _ _ (i .1) (sym (w .2 .ensures .0) ∙ w .3 .taken)))
-    (⊎-elim (λ w. not-so _ _ (w .10) (let h = two-at-least _ _ (w .2 .ensures .0) (w .3 .left) (w .4 .left) in
-    damaged t at _ _ _ _ (i .1) h (cut-short t at _ _ _ _ (i .1) h (omega (arith, w .2 .ensures .0, ap length (w .1 .ensures .0), w .8 .taken, w .9 .taken)))))
-    (λ w. not-so _ _ (w .9) (damaged t at _ _ _ _ (i .1) (two-at-least _ _ (w .2 .ensures .0) (w .3 .left) (w .4 .left))
-    (sym (ap (right (seen n)) (w .1 .ensures .0)) ∙ sym (w .7 .ensures) ∙ not-true _ (w .8 .taken))))))
-    (c .chain-test .came)
+    let damage = damaged t at _ _ _ _ (i .1) in
+    elim (c .chain-test .came) [
+      | inl w ↦ so _ _ (w .1 ∙ i .0) (ended t at _ _ _ _ (i .1) (past-end t at (w .0 .left)))
+      | inr v ↦ elim v [
+        | inl w ↦ so _ _ (w .4 ∙ i .0) (ended t at _ _ _ _ (i .1) (sym (w .2 .ensures .0) ∙ w .3 .taken))
+        | inr v ↦ elim v [
+          | inl w ↦
+              let h = two-at-least _ _ (w .2 .ensures .0) (w .3 .left) (w .4 .left) in
+              not-so _ _ (w .9) (damage h (second t at _ _ _ _ (i .1) h (eq-eqb _ 1 (sym (w .5 .ensures ∙ ap idOf (w .1 .ensures .0)) ∙ w .7 .taken)) (w .8 .taken)))
+          | inr v ↦ elim v [
+            | inl w ↦
+                let h = two-at-least _ _ (w .2 .ensures .0) (w .3 .left) (w .4 .left) in
+                not-so _ _ (w .11) (damage h (cut-short t at _ _ _ _ (i .1) h (omega (arith, w .2 .ensures .0, ap length (w .1 .ensures .0), w .9 .taken, w .10 .taken))))
+            | inr w ↦
+                let j : tie.Joined3 Inv-loop μ-loop Inv-chain μ-chain = record { before = _; if3 = w .6 } in
+                let ill = sym (ap wellFormed (w .1 .ensures .0)) ∙ sym (formed-well (w .1 .result .now) (w .6 .x) (summed j)) ∙ sym (w .7 .ensures) ∙ not-true _ (w .8 .taken) in
+                not-so _ _ (w .9) (damage (two-at-least _ _ (w .2 .ensures .0) (w .3 .left) (w .4 .left)) (and-left _ _ ill))
+          ]
+        ]
+      ]
+    ]
 
 -- ---- the needs
 
@@ -134,7 +165,7 @@ id-of-requires : tie.Need-id-of-requires Inv-loop μ-loop Inv-chain μ-chain
 id-of-requires c κs = search needs
 
 loop-holds : tie.Need-loop-holds Inv-loop μ-loop Inv-chain μ-chain
-loop-holds c = (c .before .before .before .before .before .before .before .chain .inv .0, refl)
+loop-holds c = (c .before .before .before .before .before .before .before .before .chain .inv .0, refl)
 
 shared-slice-read-x : tie.Need-shared-slice-read-x Inv-loop μ-loop Inv-chain μ-chain
 shared-slice-read-x c = search needs
@@ -148,18 +179,16 @@ loop-less c = search needs
 loop-again : tie.Need-loop-again Inv-loop μ-loop Inv-chain μ-chain
 loop-again c =
     let l = c .before .before .before .loop in
-    (l .inv .0, xor-more (c .before .before .before .before .before .before .before .before .before .block-at .result .now) (l .k) (l .x) (c .before .if4 .left) (l .inv .1))
+    (l .inv .0, xor-more (c .before .before .before .before .before .before .before .before .before .before .block-at .result .now) (l .k) (l .x) (c .before .if6 .left) (l .inv .1))
 
-right-block-requires : tie.Need-right-block-requires Inv-loop μ-loop Inv-chain μ-chain
-right-block-requires c κs = λ low.
-    ⊎-elim (λ w. w .4 ∙ xor-all (c .before .before .before .before .before .block-at .result .now) (w .1 .k) (w .1 .x) (omega (arith, w .2 .left, short c)) (w .1 .inv .1))
-    (λ w. absurd (omega (arith, w .0 .left, c .before .id-of .ensures, low))) (c .if3 .came)
+formed-by-requires : tie.Need-formed-by-requires Inv-loop μ-loop Inv-chain μ-chain
+formed-by-requires c κs = search needs
 
 add-count : tie.Need-add-count Inv-loop μ-loop Inv-chain μ-chain
-add-count c = omega (arith, c .before .before .before .before .before .before .before .before .before .before .chain .inv .1 .room, c .before .before .before .before .before .before .before .before .before .before .chain .inv .1 .fewer)
+add-count c = omega (arith, turn (c .before) .chain .inv .1 .room, turn (c .before) .chain .inv .1 .fewer)
 
 add-size : tie.Need-add-size Inv-loop μ-loop Inv-chain μ-chain
-add-size c = omega (arith, c .before .before .before .before .before .before .before .before .before .before .chain .inv .1 .room, size (c .before), stands-here (c .before) .inside)
+add-size c = omega (arith, turn (c .before) .chain .inv .1 .room, size (c .before), stands-here (c .before) .inside)
 
 add-at-2 : tie.Need-add-at-2 Inv-loop μ-loop Inv-chain μ-chain
 add-at-2 c = omega (arith, size (c .before), stands-here (c .before) .inside)
@@ -171,17 +200,17 @@ chain-again-2 : tie.Need-chain-again-2 Inv-loop μ-loop Inv-chain μ-chain
 chain-again-2 c =
     let d = c .before in
     let n = sym (size d) in
-    let next = ap (λ (k : ℕ). c .before .before .before .before .before .before .before .before .before .before .chain .at + k) n in (
+    let next = ap (λ (k : ℕ). turn (c .before) .chain .at + k) n in (
       unharmed d,
       ⊎-elim (λ w. moved (tag d) next (sym (w .1)) (n ∙ sym (w .2)) (sym (w .3)) (sym (w .4)) (with-library d (w .0 .taken)))
-          (λ w. moved (tag d) next (sym (w .1)) (sym (w .2)) (sym (w .3)) (ap (λ (k : ℕ). c .before .before .before .before .before .before .before .before .before .before .chain .size + k) n ∙ sym (w .4)) (with-other d (w .0 .left))) (c .if6 .came),
+          (λ w. moved (tag d) next (sym (w .1)) (sym (w .2)) (sym (w .3)) (ap (λ (k : ℕ). turn (c .before) .chain .size + k) n ∙ sym (w .4)) (with-other d (w .0 .left))) (c .if8 .came),
     )
 
 returns : tie.Need-returns Inv-loop μ-loop Inv-chain μ-chain
-returns c = sym (not-so (c .before .chain-test .damaged) _ (c .if7 .taken) refl) ∙ left-rightly (c .before)
+returns c = sym (not-so (c .before .chain-test .damaged) _ (c .if9 .taken) refl) ∙ left-rightly (c .before)
 
 returns-2 : tie.Need-returns-2 Inv-loop μ-loop Inv-chain μ-chain
-returns-2 c = sym (so (c .before .chain-test .damaged) _ (c .if7 .left) refl) ∙ left-rightly (c .before)
+returns-2 c = sym (so (c .before .chain-test .damaged) _ (c .if9 .left) refl) ∙ left-rightly (c .before)
 
 pub survey-of-spec : {M : Type 1} → statement M
 survey-of-spec =
@@ -203,7 +232,7 @@ survey-of-spec =
     add-k
     loop-less
     loop-again
-    right-block-requires
+    formed-by-requires
     add-count
     add-size
     add-at-2

@@ -55,9 +55,6 @@ left c = let w = past-survey c in steps.whole _ (begun (past-basic w)) (whole w 
 abbrev past-fields : tie.After-enum-told5 → tie.After-known-told2
 past-fields c = c .before .before .before
 
-agreed : (c : tie.After-enum-told5) → need 7 (agree (at-start (past-basic (past-survey (past-fields c))) .args .tag .now)) ≡ got tt
-agreed c = sym (c .before .before .agree-stage .ensures) ∙ ap stageGiven (c .enum-told5 .given .1)
-
 returns : tie.Need-returns
 returns c =
     let r = c .before .before .before .basic-stage in
@@ -89,7 +86,8 @@ returns-5 c =
     let p = c .before .before .before .before .before in
     let f = past-fields p in
     let r = c .before .fill-row .ensures in
-    looked (whole (past-survey f)) (found f) (left f ∙ first-ok _ _ _ (agreed p) ∙ none-ok _) (r .0) (r .1) (r .2) (c .one-piece .ensures)
+    let e = sym (p .before .before .agree-stage .ensures) ∙ ap stageGiven (p .enum-told5 .given .1) in
+    looked (whole (past-survey f)) (found f) (left f ∙ first-ok _ _ _ e ∙ none-ok _) (r .0) (r .1) (r .2) (c .one-piece .ensures)
 
 pub look-at-spec : {M : Type 1} → statement M
 look-at-spec =

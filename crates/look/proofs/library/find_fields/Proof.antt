@@ -1,9 +1,10 @@
 -- What each field gives is a step of `goodFields`.
 use mathlib.Core.Path.{_≡_, sym, ap, _∙_}
-use mathlib.Core.List.{[], _∷_}
+use Prim.Native.Nat.{ℕ}
+use mathlib.Core.List.{List, [], _∷_}
 use borrow.Author.Needs.{needs}
 use borrow.Author.Tests.{le-leb, lt-leb}
-use Rattle.format.specs.Answers.{got, plain, inOrder, passed}
+use Rattle.format.specs.Answers.{got, plain, Step, inOrder, passed}
 use Rattle.format.specs.Reading.{goodFields}
 use Rattle.format.proofs.Answers.{first-ok, first-no, next-ok, next-no, none-ok, passed-ok, passed-no}
 use Rattle.fields.specs.Forms.{itemGiven, ownerGiven, libraryForm, libraryGiven}
@@ -13,11 +14,15 @@ use Rattle.look.proofs.Steps.{refused-number, foundIf, itemSeen, ownerS
 use Rattle.look.proofs.library.find_fields.Statement.{statement}
 use Rattle.look.proofs.library.find_fields.Tie as tie
 
--- past the ordinal, the item and the owner: which steps are left
+-- these steps are left
+abbrev Left : List ℕ → List Step → Type 0
+Left t steps = foundIf (goodFields t) (partsOn t) ≡ inOrder steps (partsOn t)
+
+-- past the ordinal, the item and the owner
 abbrev at-start : tie.Else1 → tie.Start
 at-start c = c .before .before .before .before
 
-item-left : (c : tie.Else1) → let t = at-start c .args .tag .now in foundIf (goodFields t) (partsOn t) ≡ inOrder (passed (itemSeen t) ∷ passed (ownerSeen t) ∷ passed (librarySeen t) ∷ []) (partsOn t)
+item-left : (c : tie.Else1) → let t = at-start c .args .tag .now in Left t (passed (itemSeen t) ∷ passed (ownerSeen t) ∷ passed (librarySeen t) ∷ [])
 item-left c = let t = at-start c .args .tag .now in fields-each t (partsOn t) ∙ next-ok 6 _ _ (partsOn t) (le-leb _ _ (c .if1 .left))
 
 abbrev past-ordinal : tie.After-known-told → tie.Else1
@@ -26,7 +31,7 @@ past-ordinal c = c .before .before .before .before
 item-got : (c : tie.After-known-told) → itemSeen (at-start (past-ordinal c) .args .tag .now) ≡ got (c .before .found-item .given .0 .0)
 item-got c = sym (ap itemGiven (c .before .before .before .item-field .ensures)) ∙ ap itemGiven (c .before .found-item .given .1)
 
-owner-left : (c : tie.After-known-told) → let t = at-start (past-ordinal c) .args .tag .now in foundIf (goodFields t) (partsOn t) ≡ inOrder (passed (ownerSeen t) ∷ passed (librarySeen t) ∷ []) (partsOn t)
+owner-left : (c : tie.After-known-told) → let t = at-start (past-ordinal c) .args .tag .now in Left t (passed (ownerSeen t) ∷ passed (librarySeen t) ∷ [])
 owner-left c = item-left (past-ordinal c) ∙ first-ok _ _ _ (passed-ok _ _ (item-got c))
 
 abbrev past-item : tie.After-known-told2 → tie.After-known-told
@@ -35,7 +40,7 @@ past-item c = c .before .before .before .before
 owner-got : (c : tie.After-known-told2) → ownerSeen (at-start (past-ordinal (past-item c)) .args .tag .now) ≡ got (c .before .found-owner .given .0 .0)
 owner-got c = sym (ap ownerGiven (c .before .before .before .owner-field .ensures)) ∙ ap ownerGiven (c .before .found-owner .given .1)
 
-library-left : (c : tie.After-known-told2) → let t = at-start (past-ordinal (past-item c)) .args .tag .now in foundIf (goodFields t) (partsOn t) ≡ inOrder (passed (librarySeen t) ∷ []) (partsOn t)
+library-left : (c : tie.After-known-told2) → let t = at-start (past-ordinal (past-item c)) .args .tag .now in Left t (passed (librarySeen t) ∷ [])
 library-left c = owner-left (past-item c) ∙ first-ok _ _ _ (passed-ok _ _ (owner-got c))
 
 abbrev past-owner : tie.After-library-in → tie.After-known-told2

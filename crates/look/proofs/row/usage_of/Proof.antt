@@ -6,9 +6,6 @@ use Rattle.look.specs.Row.{usageBy}
 use Rattle.look.proofs.row.usage_of.Statement.{statement}
 use Rattle.look.proofs.row.usage_of.Tie as tie
 
-mul-result : tie.Need-mul-result
-mul-result c = omega (arith, c .shared-slice-known .given 0)
-
 returns : tie.Need-returns
 unfolding usageBy
 returns c = rw (eq-eqb _ 0 (c .before .if1 .taken))
@@ -18,4 +15,4 @@ unfolding usageBy
 returns-2 c = rw (ne-eqb _ 0 (c .if1 .left))
 
 pub usage-of-spec : {M : Type 1} → statement M
-usage-of-spec = tie.close (tie.spec (λ c. search needs) mul-result returns returns-2)
+usage-of-spec = tie.close (tie.spec (λ c. search needs) (λ c. omega (arith, c .shared-slice-known .given 0)) returns returns-2)
