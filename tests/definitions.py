@@ -1,7 +1,7 @@
 #!/usr/bin/env python3
 """Wrong definitions, and whether any theorem or table sees that they are wrong: tests/definitions.py [FILE ..], files of crates/format/specs
 
-Raises each number of the definitions by one, one at a time, in copies under target/definitions, and checks crate format. Slices and Pieces are
+Raises each number of the definitions by one, one at a time, in copies under target/definitions, and checks crate format. Pieces is
 left out: no rule stands there, and only crates above use them. Prints each change that nothing refuses. Ends with 1 where one of them should be refused. About 15 minutes for all files, on two cores; no part of tests/run.
 """
 import concurrent.futures
@@ -15,7 +15,7 @@ import sys
 ROOT = pathlib.Path(__file__).resolve().parent.parent
 SPECS = pathlib.Path('crates/format/specs')
 WORK = ROOT / 'target' / 'definitions'
-RULELESS = {'Lib.antt', 'Pieces.antt', 'Slices.antt'}
+RULELESS = {'Lib.antt', 'Pieces.antt'}
 NUMBER = re.compile(r'(?<![\w.·{])(?<!Type )(?:0x[0-9A-Fa-f]+|\d+)(?![\w}])')
 
 # Changes that leave every call as it is: file, the line as it is then, grounds.

@@ -145,7 +145,7 @@ item-stands f = go (marked (strip f)) refl
 -- it holds the marker; or else an alternative owner from the third byte on, or an ISIL, its prefix in front and its unit from there on
 pub record OwnerStands (f : List ℕ) (p : OwnerParts) : Type 0 where
   pub marks : marked (ownerSaid (strip f)) ≡ p .marked
-  pub other : p .marked ≡ false → let o : List ℕ = ownerSaid (strip f) in Within f 2 (p .other) (if alternate o then o else [])
+  pub other : p .marked ≡ false → let o : List ℕ = ownerSaid (strip f) in Within f 2 (p .alternative) (if alternate o then o else [])
   pub isil : p .marked ≡ false
       → let o : List ℕ = ownerSaid (strip f) in
       (if eqb (p .prefix) 0 then [] else take (p .prefix) f ++ hyphen ∷ part 2 (p .isil) f) ≡ (if alternate o then [] else o)
@@ -190,7 +190,7 @@ module _ (f : List ℕ) where
   module _ (g : goodOwner t ≡ true) where
     -- a third byte up to 03: what begins there is said
     low : leb (getD t 2 0) 3 ≡ true → (m : Bool) → marked rest ≡ m
-        → OwnerStands f (record { marked = m; prefix = 0; isil = 0; other = if m then 0 else length rest })
+        → OwnerStands f (record { marked = m; prefix = 0; isil = 0; alternative = if m then 0 else length rest })
     unfolding goodOwner ownerSaid
     low l true h = record {
       marks = rw l h;
@@ -217,7 +217,7 @@ module _ (f : List ℕ) where
 
     -- above: an ISIL
     high : leb (getD t 2 0) 3 ≡ false
-        → OwnerStands f (record { marked = marked rest; prefix = length (prefixIn t); isil = length rest; other = 0 })
+        → OwnerStands f (record { marked = marked rest; prefix = length (prefixIn t); isil = length rest; alternative = 0 })
     unfolding goodOwner ownerSaid
     high l =
         let k = third-high t l in
@@ -239,8 +239,8 @@ owner-stands f g = go (leb (getD (strip f) 2 0) 3) refl
     go : (l : Bool) → leb (getD (strip f) 2 0) 3 ≡ l
         → OwnerStands f
         (if l
-        then record { marked = marked (rest f); prefix = 0; isil = 0; other = if marked (rest f) then 0 else length (rest f) }
-        else record { marked = marked (rest f); prefix = length (prefixIn (strip f)); isil = length (rest f); other = 0 })
+        then record { marked = marked (rest f); prefix = 0; isil = 0; alternative = if marked (rest f) then 0 else length (rest f) }
+        else record { marked = marked (rest f); prefix = length (prefixIn (strip f)); isil = length (rest f); alternative = 0 })
     go true l = low f g l (marked (rest f)) refl
     go false l = high f g l
 

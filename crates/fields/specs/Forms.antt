@@ -32,8 +32,8 @@ ownerParts f =
     let t : List ℕ = strip f in
     let said : List ℕ = drop 2 t in
     if leb (getD t 2 0) 3
-    then record { marked = marked said; prefix = 0; isil = 0; other = if marked said then 0 else length said }
-    else record { marked = marked said; prefix = length (prefixIn t); isil = length said; other = 0 }
+    then record { marked = marked said; prefix = 0; isil = 0; alternative = if marked said then 0 else length said }
+    else record { marked = marked said; prefix = length (prefixIn t); isil = length said; alternative = 0 }
 
 -- block 1's fields, with the lengths of item and owner for their bytes
 unfoldable pub libraryParts : List ℕ → LibraryParts

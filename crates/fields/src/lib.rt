@@ -22,12 +22,12 @@ pub enum ItemField {
 }
 
 // What a good owner field of the basic block holds: the marker; or an ISIL, a prefix of `prefix` bytes and a unit of `isil` bytes from the
-// third byte on; or an alternative owner of `other` bytes from the third byte on; or nothing.
+// third byte on; or an alternative owner of `alternative` bytes from the third byte on; or nothing.
 pub struct OwnerParts {
     pub marked: bool,
     pub prefix: usize,
     pub isil: usize,
-    pub other: usize,
+    pub alternative: usize,
 }
 
 // The owner field; or refusal 6, it breaks its form.
@@ -279,14 +279,14 @@ fn prefix_in(field: &[u8]) -> &[u8]
 }
 
 // An owner field with these parts.
-fn good_owner(marked: bool, prefix: usize, isil: usize, other: usize) -> OwnerField
-    ensures { λ r. ⌜ r ≡ owner.Good (record { marked = marked; prefix = prefix; isil = isil; other = other }) ⌝ }
+fn good_owner(marked: bool, prefix: usize, isil: usize, alternative: usize) -> OwnerField
+    ensures { λ r. ⌜ r ≡ owner.Good (record { marked = marked; prefix = prefix; isil = isil; alternative = alternative }) ⌝ }
 {
     OwnerField::Good(OwnerParts {
         marked,
         prefix,
         isil,
-        other,
+        alternative,
     })
 }
 

@@ -23,7 +23,7 @@ use Rattle.fields.specs.declared.ItemParts.{ItemParts}
 use Rattle.fields.specs.declared.OwnerParts.{OwnerParts}
 use Rattle.fields.specs.declared.LibraryParts.{LibraryParts}
 use Rattle.fields.proofs.Places.{Within, within-length}
-use Rattle.look.specs.Row.{from, nowhere, itemBy, secondBy, isilMade, isilBytes, isilBy, otherBy, mediaLength, usageBy, rowBy, frontMade, madeBy, IsilLies, OwnerLies, RowLies}
+use Rattle.look.specs.Row.{from, nowhere, itemBy, alternativeItemBy, isilMade, isilBytes, isilBy, alternativeOwnerBy, mediaLength, usageBy, rowBy, frontMade, madeBy, IsilLies, OwnerLies, RowLies}
 use Rattle.look.specs.Looking.{FieldsOf}
 use Rattle.look.proofs.Standing.{part-part, held-length, Lies, lies-as, in-made, no-bytes, in-part, Holds, done, more}
 use Rattle.look.proofs.Steps.{item-of, owner-of, library-of}
@@ -112,7 +112,7 @@ module _ (t : List ℕ) (block : Part) (h : Held t block (libraryBlock (blocksIn
 
     -- both elements of the owner s, an ISIL or another
     abbrev OwnerLaid : List ℕ → Type 0
-    OwnerLaid s = Lies t m (isilBy t at o l) (if alternate s then [] else s) × Lies t m (otherBy t at o l) (if alternate s then s else [])
+    OwnerLaid s = Lies t m (isilBy t at o l) (if alternate s then [] else s) × Lies t m (alternativeOwnerBy t at o l) (if alternate s then s else [])
 
     module _ (some : eqb (l .owner) 0 ≡ false) where
       block-owner : Lies t m (from at (l .owner)) (libraryOn t .owner)
@@ -128,7 +128,7 @@ module _ (t : List ℕ) (block : Part) (h : Held t block (libraryBlock (blocksIn
           ap (λ (b : ℕ). alternate (b ∷ [])) first
 
       in-block-one : OwnerLaid (libraryOn t .owner)
-      unfolding isilBy otherBy
+      unfolding isilBy alternativeOwnerBy
       in-block-one = rw (kind, some) (go (alternate (getD t at 0 ∷ [])))
         where
           go : (y : Bool) → Lies t m (if y then nowhere else from at (l .owner)) (if y then [] else libraryOn t .owner)
@@ -151,8 +151,8 @@ module _ (t : List ℕ) (block : Part) (h : Held t block (libraryBlock (blocksIn
           (ap (λ (x : List ℕ). take (o .prefix + 1 + o .isil) (x ++ drop (length (madeBy t o l)) made)) e ∙ take-at s _ _ n)
 
       in-owner-field : OwnerLaid (ownerSaid (ownerIn t))
-      unfolding isilBy otherBy isilMade
-      in-owner-field = rw no (go (eqb (o .prefix) 0) refl, in-part t m 21 13 (omega (arith, f .sized .least)) 2 (o .other) _ (owner-of f .other unmarked) (λ z. omega (arith, made-length)))
+      unfolding isilBy alternativeOwnerBy isilMade
+      in-owner-field = rw no (go (eqb (o .prefix) 0) refl, in-part t m 21 13 (omega (arith, f .sized .least)) 2 (o .alternative) _ (owner-of f .other unmarked) (λ z. omega (arith, made-length)))
         where
           go : (x : Bool) → eqb (o .prefix) 0 ≡ x → let s : List ℕ = ownerSaid (ownerIn t) in Lies t m (if x then nowhere else from (length t + 5) (o .prefix + 1 + o .isil)) (if alternate s then [] else s)
           go true p = lies-as none (rw p at (owner-of f .isil unmarked))
@@ -167,7 +167,7 @@ module _ (t : List ℕ) (block : Part) (h : Held t block (libraryBlock (blocksIn
         go false e = in-block-one e
 
     pub elements-lie : bytes t ≡ true → Holds t m (rowBy t (block .at) i o l) (contentIn t .slots)
-    unfolding rowBy contentIn itemBy secondBy usageBy
+    unfolding rowBy contentIn itemBy alternativeItemBy usageBy
     elements-lie y =
         rw (item-of f .marks, library-of f .usage)
         (more (first-lies (i .marked) refl)

@@ -30,7 +30,7 @@ use Rattle.fields.specs.declared.LibraryParts.{LibraryParts}
 use Rattle.fields.specs.Forms.{itemForm, itemGiven, ownerForm, ownerGiven, libraryForm, libraryGiven}
 use Rattle.fields.proofs.Places.{within-length, item-given, owner-given, library-given, ItemStands, item-stands, OwnerStands, owner-stands, LibraryStands, library-stands}
 use Rattle.look.specs.Looking.{Sized, basicJudged, itemOn, ownerPartsOn, libraryPartsOn, partsOn, fieldsGiven, FieldsOf}
-use Rattle.look.specs.declared.library.FieldsFound.the-variants as fields
+use Rattle.look.specs.declared.judge.FieldsFound.the-variants as fields
 use Rattle.look.specs.declared.Look.the-variants as look
 use Rattle.look.specs.Row.{atsBy, lensBy, madeBy, pieceBy}
 use Rattle.look.specs.View.{viewIn, looking, Looked}

@@ -15,8 +15,8 @@ use Rattle.fields.specs.declared.ItemParts.{ItemParts}
 use Rattle.fields.specs.declared.OwnerParts.{OwnerParts}
 use Rattle.fields.specs.declared.LibraryParts.{LibraryParts}
 use Rattle.fields.specs.Forms.{itemParts, ownerParts, libraryParts}
-use Rattle.look.specs.declared.library.FieldsFound.{FieldsFound}
-use Rattle.look.specs.declared.library.FieldsFound.the-variants as fields
+use Rattle.look.specs.declared.judge.FieldsFound.{FieldsFound}
+use Rattle.look.specs.declared.judge.FieldsFound.the-variants as fields
 
 -- no shorter than the shortest tag, no longer than the longest
 pub record Sized (t : List ℕ) : Type 0 where

@@ -27,8 +27,8 @@ nowhere = from 0 0
 unfoldable pub itemBy : ℕ → ItemParts → LibraryParts → Part
 itemBy block i l = if i .marked then from (block + 5) (l .item) else from 3 (i .len)
 
-unfoldable pub secondBy : ℕ → ItemParts → LibraryParts → Part
-secondBy block i l = if i .marked then nowhere else from (block + 5) (l .item)
+unfoldable pub alternativeItemBy : ℕ → ItemParts → LibraryParts → Part
+alternativeItemBy block i l = if i .marked then nowhere else from (block + 5) (l .item)
 
 -- ---- owners: in block 1, from `at` on, if that has one, where its first byte tells its kind; else from byte 23 on, an ISIL with its prefix
 -- at byte 21
@@ -48,9 +48,9 @@ isilBy t at o l =
     then (if eqb (o .prefix) 0 then nowhere else from (length t + 5) (o .prefix + 1 + o .isil))
     else (if alternate (getD t at 0 ∷ []) then nowhere else from at (l .owner))
 
-unfoldable pub otherBy : List ℕ → ℕ → OwnerParts → LibraryParts → Part
-otherBy t at o l =
-    if eqb (l .owner) 0 then from 23 (o .other) else
+unfoldable pub alternativeOwnerBy : List ℕ → ℕ → OwnerParts → LibraryParts → Part
+alternativeOwnerBy t at o l =
+    if eqb (l .owner) 0 then from 23 (o .alternative) else
     if alternate (getD t at 0 ∷ []) then from at (l .owner) else nowhere
 
 -- ---- media and usage
@@ -73,8 +73,8 @@ rowBy t block i o l =
     from (length t) 4 ∷
     from (length t + 4) 1 ∷
     from (block + 4) (mediaLength (l .media)) ∷
-    secondBy block i l ∷
-    otherBy t at o l ∷
+    alternativeItemBy block i l ∷
+    alternativeOwnerBy t at o l ∷
     []
 
 abbrev pub atsBy : List ℕ → ℕ → ItemParts → OwnerParts → LibraryParts → List ℕ
@@ -126,6 +126,6 @@ pub record RowLies (t : List ℕ) (block : ℕ) (o : OwnerParts) (l : LibraryPar
 
 -- what laying down the owner leaves
 pub record OwnerHeld (t : List ℕ) (at : ℕ) (o : OwnerParts) (l : LibraryParts) (ats lens made ats′ lens′ made′ : List ℕ) : Type 0 where
-  pub ats-left : ats′ ≡ set (set ats 6 (otherBy t at o l .at)) 1 (isilBy t at o l .at)
-  pub lens-left : lens′ ≡ set (set lens 6 (otherBy t at o l .len)) 1 (isilBy t at o l .len)
+  pub ats-left : ats′ ≡ set (set ats 6 (alternativeOwnerBy t at o l .at)) 1 (isilBy t at o l .at)
+  pub lens-left : lens′ ≡ set (set lens 6 (alternativeOwnerBy t at o l .len)) 1 (isilBy t at o l .len)
   pub made-left : made′ ≡ stead 5 (isilBytes t o l) made

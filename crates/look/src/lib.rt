@@ -1,13 +1,13 @@
 // Looking at a tag: its refusals 1, 3, 4, 5, 6 and 7, and what it holds.
 mod basic;
-mod library;
+mod judge;
 mod owner;
 mod row;
 
 use chain::Survey;
 use format::Part;
 use format::Stage;
-use library::FieldsFound;
+use judge::FieldsFound;
 ghost use mathlib.Core.Path.{_≡_};
 ghost use Rattle.format.specs.Numbers.{numberOf};
 ghost use Rattle.look.specs.View.{lookGiven, Looked};
@@ -59,11 +59,11 @@ pub fn look_at(tag: &[u8], ats: &mut [usize; 7], lens: &mut [usize; 7], made: &m
         at: library,
         len: length,
     };
-    let found = library::find_fields(tag, block);
+    let found = judge::find_fields(tag, block);
     let FieldsFound::Good(item, owner, fields) = found else {
-        return Look::Refused(library::fields_number(found));
+        return Look::Refused(judge::fields_number(found));
     };
-    let agreed = library::agree_stage(tag, item, owner, fields);
+    let agreed = judge::agree_stage(tag, item, owner, fields);
     let Stage::Passed = agreed else {
         return Look::Refused(format::stage_number(agreed));
     };

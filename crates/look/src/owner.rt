@@ -8,7 +8,7 @@ ghost use Rattle.format.specs.Fields.{alternate};
 ghost use Rattle.look.specs.Row.{stead, isilMade, IsilLies, OwnerLies, OwnerHeld};
 
 // Does this byte, 02 or 03, begin an alternative owner?
-fn begins_other(first: u8) -> bool
+fn begins_alternative(first: u8) -> bool
     ensures { λ r. ⌜ r ≡ alternate (first ∷ []) ⌝ }
 {
     2 <= first && first <= 3
@@ -46,7 +46,7 @@ pub fn hold_owner(
     ensures { λ _. ⌜ OwnerHeld (now (tag .entry)) at owner library (now (ats .entry)) (now (lens .entry)) (now (made .entry)) (now (ats .exit)) (now (lens .exit)) (now (made .exit)) ⌝ }
 {
     if library.owner != 0 {
-        if begins_other(tag[at]) {
+        if begins_alternative(tag[at]) {
             hold(ats, lens, 6, at, library.owner);
             hold(ats, lens, 1, 0, 0);
             return;
@@ -55,7 +55,7 @@ pub fn hold_owner(
         hold(ats, lens, 1, at, library.owner);
         return;
     }
-    hold(ats, lens, 6, 23, owner.other);
+    hold(ats, lens, 6, 23, owner.alternative);
     if owner.prefix == 0 {
         hold(ats, lens, 1, 0, 0);
         return;

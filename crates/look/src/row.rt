@@ -7,7 +7,7 @@ ghost use mathlib.Core.Path.{_≡_};
 ghost use Prim.Native.Nat.{_+_, _≤_, _<_};
 ghost use lib.ListN.{length, set};
 ghost use Rattle.format.specs.Bytes.{filled};
-ghost use Rattle.look.specs.Row.{mediaLength, usageBy, frontMade, itemBy, secondBy, pieceBy, atsBy, lensBy, madeBy, RowLies};
+ghost use Rattle.look.specs.Row.{nowhere, mediaLength, usageBy, frontMade, itemBy, alternativeItemBy, pieceBy, atsBy, lensBy, madeBy, RowLies};
 
 // The element at place k of the table has `len` bytes from `at`.
 pub fn hold(ats: &mut [usize], lens: &mut [usize], k: usize, at: usize, len: usize)
@@ -58,8 +58,8 @@ fn hold_items(
     lens: &mut [usize; 7],
 )
     requires { ⌜ block ≤ 2048 ⌝ }
-    ensures { λ _. ⌜ (now (ats .exit) ≡ set (set (now (ats .entry)) 0 (itemBy block item library .at)) 5 (secondBy block item library .at))
-        × (now (lens .exit) ≡ set (set (now (lens .entry)) 0 (itemBy block item library .len)) 5 (secondBy block item library .len)) ⌝ }
+    ensures { λ _. ⌜ (now (ats .exit) ≡ set (set (now (ats .entry)) 0 (itemBy block item library .at)) 5 (alternativeItemBy block item library .at))
+        × (now (lens .exit) ≡ set (set (now (lens .entry)) 0 (itemBy block item library .len)) 5 (alternativeItemBy block item library .len)) ⌝ }
 {
     if item.marked {
         hold(ats, lens, 0, block + 5, library.item);
@@ -104,6 +104,13 @@ pub fn fill_row(
     );
 }
 
+// The part of no bytes.
+fn nowhere() -> Part
+    ensures { λ r. ⌜ r ≡ nowhere ⌝ }
+{
+    Part { at: 0, len: 0 }
+}
+
 // Where the carried blocks stand in one piece, by what the survey gives: there are some, block 1 is the first or there is none, and the
 // chain has no filler. Else a part of no bytes.
 pub fn one_piece(library: usize, length: usize, size: usize, end: usize) -> Part
@@ -111,13 +118,13 @@ pub fn one_piece(library: usize, length: usize, size: usize, end: usize) -> Part
     ensures { λ r. ⌜ r ≡ pieceBy library length size end ⌝ }
 {
     if size == 0 {
-        return Part { at: 0, len: 0 };
+        return nowhere();
     }
     if length != 0 && library != 34 {
-        return Part { at: 0, len: 0 };
+        return nowhere();
     }
     if 34 + length + size != end {
-        return Part { at: 0, len: 0 };
+        return nowhere();
     }
     Part {
         at: 34 + length,

@@ -20,7 +20,7 @@ use Rattle.fields.proofs.owner_in.Statement.{statement}
 use Rattle.fields.proofs.owner_in.Tie as tie
 
 abbrev good : Bool → ℕ → ℕ → ℕ → OwnerField
-good m p i o = Good (record { marked = m; prefix = p; isil = i; other = o })
+good m p i o = Good (record { marked = m; prefix = p; isil = i; alternative = o })
 
 -- t is what the field holds, s what stands from its third byte on
 module _ (f t s : List ℕ) (et : t ≡ strip f) (es : s ≡ drop 2 t) where

@@ -7,8 +7,8 @@ use borrow.Author.Needs.{needs}
 use borrow.Author.Tests.{eqb-true, not-true, not-false}
 use Rattle.format.proofs.Tests.{and-no, or-r}
 use Rattle.look.proofs.Steps.{item-missing, owner-astray, usage-strange, usage-fine}
-use Rattle.look.proofs.library.agree_stage.Statement.{statement}
-use Rattle.look.proofs.library.agree_stage.Tie as tie
+use Rattle.look.proofs.judge.agree_stage.Statement.{statement}
+use Rattle.look.proofs.judge.agree_stage.Tie as tie
 
 -- past the first condition no marked item is missing
 item-there : (c : tie.Joined1) → let a = c .before .args in (a .item .marked && eqb (a .library .item) 0) ≡ false

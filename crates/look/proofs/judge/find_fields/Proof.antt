@@ -11,8 +11,8 @@ use Rattle.fields.specs.Forms.{itemGiven, ownerGiven, libraryForm, libraryGiven
 use Rattle.look.specs.Looking.{partsOn}
 use Rattle.look.proofs.Standing.{held-cut}
 use Rattle.look.proofs.Steps.{refused-number, foundIf, itemSeen, ownerSeen, librarySeen, fields-each, fields-found}
-use Rattle.look.proofs.library.find_fields.Statement.{statement}
-use Rattle.look.proofs.library.find_fields.Tie as tie
+use Rattle.look.proofs.judge.find_fields.Statement.{statement}
+use Rattle.look.proofs.judge.find_fields.Tie as tie
 
 -- these steps are left
 abbrev Left : List ℕ → List Step → Type 0

@@ -1,4 +1,4 @@
-// The fields together: refusals 6 and 7.
+// The fields of the basic block and of block 1, judged together: refusals 6 and 7.
 use fields::ItemField;
 use fields::ItemParts;
 use fields::LibraryField;
