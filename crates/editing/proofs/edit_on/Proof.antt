@@ -190,10 +190,14 @@ part-draft-start c = search needs
 part-draft-end : tie.Need-part-draft-end
 part-draft-end c = inside (at-sight (at-put (c .before .before .before .before .before .before .before .before .before)))
 
+-- the draft, as 13 was judged by it
+abbrev at-lent : tie.After-put → tie.After-draft
+at-lent p = at-own (at-value (at-put p)) .before .before .before
+
 -- ---- the draft is 00 again
 
 fresh : (x : tie.After-clear) → Fresh (x .clear .last .0) (at-start (at-look (at-sight (at-put (x .before .before)))) .args .tag .now)
-fresh x = cleared-fresh _ _ _ _ (at-start (at-look (at-sight (at-put (x .before .before)))) .pre .0) (x .before .before .before .before .before .before .before .before .before .before .before .before .before .before .before .before .draft .given) (x .clear .ensures)
+fresh x = cleared-fresh _ _ _ _ (at-start (at-look (at-sight (at-put (x .before .before)))) .pre .0) (at-lent (x .before .before) .draft .given) (x .clear .ensures)
 
 draft-requires : tie.Need-draft-requires
 draft-requires c κs = let x = c .before .before .before .before .before .before .before .before .before in let p = x .before .before in edited-asks _ _ _ _ _ _ _ _ _ (taken (at-put p)) _ _ _ _ _ (is-put p) _ (fresh x)
@@ -207,16 +211,20 @@ enum-told-7 c = search needs
 stage-number-requires-3 : tie.Need-stage-number-requires-3
 stage-number-requires-3 c κs = search needs
 
+-- each call left it as long as it was
+abbrev at-clear : tie.After-draft3 → tie.After-clear
+at-clear d = d .before .before .before .before .before .before .before .before .before .before
+
+cleared-long : (d : tie.After-draft3) → let x = at-clear d in length (x .clear .last .0) ≡ length (at-start (at-look (at-sight (at-put (x .before .before)))) .args .draft .now)
+cleared-long d = d .before .before .before .before .before .before .before .before .before .draft2 .given ∙ at-lent (at-clear d .before .before) .draft .given
+
 same-length-6 : tie.Need-same-length-6
-same-length-6 c = c .before .before .before .before .draft4 .given ∙ c .before .before .before .before .before .before .before .before .before .before .before .before .before .before .draft2 .given ∙ c .before .before .before .before .before .before .before .before .before .before .before .before .before .before .before .before .before .before .before .before .before .before .before .before .before .before .before .before .before .before .before .draft .given
+same-length-6 c = c .before .before .before .before .draft4 .given ∙ cleared-long (c .before .before .before .before .before)
 
 same-length-7 : tie.Need-same-length-7
 same-length-7 c = search needs
 
 -- ---- drafted, sealed and judged by the locks
-
-abbrev at-clear : tie.After-draft3 → tie.After-clear
-at-clear d = d .before .before .before .before .before .before .before .before .before .before
 
 returns-4 : tie.Need-returns-4
 returns-4 c =
@@ -241,14 +249,21 @@ enum-told-9 c = search needs
 stage-number-requires-4 : tie.Need-stage-number-requires-4
 stage-number-requires-4 c κs = search needs
 
+abbrev at-seal : tie.After-lock-stage → tie.After-seal
+at-seal l = l .before .before .before .before .before
+
+abbrev at-drafted : tie.After-lock-stage → tie.After-draft3
+at-drafted l = at-seal l .before .before .before .before .before .before
+
+sealed-long : (l : tie.After-lock-stage) → let x = at-clear (at-drafted l) in
+    length (at-seal l .seal .last .0) ≡ length (at-start (at-look (at-sight (at-put (x .before .before)))) .args .draft .now)
+sealed-long l = l .before .before .before .before .draft5 .given ∙ at-seal l .before .before .before .before .before .draft4 .given ∙ cleared-long (at-drafted l)
+
 same-length-8 : tie.Need-same-length-8
-same-length-8 c = c .before .before .before .before .before .before .before .draft5 .given ∙ c .before .before .before .before .before .before .before .before .before .before .before .before .before .draft4 .given ∙ c .before .before .before .before .before .before .before .before .before .before .before .before .before .before .before .before .before .before .before .before .before .before .before .draft2 .given ∙ c .before .before .before .before .before .before .before .before .before .before .before .before .before .before .before .before .before .before .before .before .before .before .before .before .before .before .before .before .before .before .before .before .before .before .before .before .before .before .before .before .draft .given
+same-length-8 c = sealed-long (c .before .before .before)
 
 same-length-9 : tie.Need-same-length-9
 same-length-9 c = search needs
-
-abbrev at-drafted : tie.After-lock-stage → tie.After-draft3
-at-drafted l = l .before .before .before .before .before .before .before .before .before .before .before
 
 returns-5 : tie.Need-returns-5
 returns-5 c =
@@ -275,8 +290,12 @@ copy-requires-2 c κs =
 store-requires : tie.Need-store-requires
 store-requires c κs = search needs
 
+-- the old element is handed out, and the draft is stored
+abbrev at-piece : tie.After-store → tie.After-piece
+at-piece y = y .before .before .before .before .before .before .before
+
 same-length-10 : tie.Need-same-length-10
-same-length-10 c = c .before .before .before .before .before .before .before .before .before .before .before .before .before .before .before .before .before .before .draft5 .given ∙ c .before .before .before .before .before .before .before .before .before .before .before .before .before .before .before .before .before .before .before .before .before .before .before .before .draft4 .given ∙ c .before .before .before .before .before .before .before .before .before .before .before .before .before .before .before .before .before .before .before .before .before .before .before .before .before .before .before .before .before .before .before .before .before .before .draft2 .given ∙ c .before .before .before .before .before .before .before .before .before .before .before .before .before .before .before .before .before .before .before .before .before .before .before .before .before .before .before .before .before .before .before .before .before .before .before .before .before .before .before .before .before .before .before .before .before .before .before .before .before .before .before .draft .given
+same-length-10 c = sealed-long (at-piece (c .before .before) .before .before .before .before .before)
 
 same-length-11 : tie.Need-same-length-11
 same-length-11 c = search needs

@@ -78,9 +78,12 @@ render-requires c κs =
 same-length : tie.Need-same-length
 same-length c = search needs
 
+abbrev at-seen : tie.After-render → tie.After-looked
+at-seen r = r .before .before .before .before .before .before .before .before .before
+
 returns-2 : tie.Need-returns-2
 returns-2 c =
-    let k = c .before .before .before .before .before .before .before .before .before .before .before in
+    let k = at-seen (c .before .before) in
     rendered-reads _ _ _ _ _ _ (tag-bytes k) (sighted k) (seen k) _ _ _ (c .before .before .render .ensures)
 
 pub read-spec : {M : Type 1} → statement M
