@@ -43,5 +43,6 @@ fn write_on(draft: &mut [u8], sheet: &[u8], tag: &mut [u8], locks: &[u8]) -> Num
     let Stage::Passed = unlocked else {
         return NumberAnswer::Refused(format::stage_number(unlocked));
     };
-    NumberAnswer::Done(pages::store(draft, tag))
+    let count = pages::store(draft, tag);
+    NumberAnswer::Done(count)
 }
