@@ -136,7 +136,7 @@ fn edit_on(
     let Stage::Passed = valued else {
         return EditAnswer::Refused(format::stage_number(valued));
     };
-    // the new bytes stand behind what was made of the tag
+    // the new bytes, at most 255, stand behind what was made of the tag
     let mut made = [0u8; 274];
     bytes::copy(&seen, &mut made);
     let was = put(number, bytes, tag.len(), &mut ats, &mut lens, &mut made);
