@@ -5,7 +5,7 @@ use native.Mathlib.Omega.{arith}
 use mathlib.Core.Bool.{true}
 use mathlib.Core.List.{List, _++_}
 use lib.Dec.{eqb}
-use lib.ListN.{length, getD, take, drop, set, replicate, length-append, length-drop, length-replicate}
+use lib.ListN.{length, getD, take, drop, set, replicate, length-append, length-drop}
 use lib.Seq.{take-length, take-at}
 use Rattle.format.specs.Answers.{got, refused, plain, need, inOrder}
 use Rattle.format.specs.Bytes.{bytes, part, joined, filled}
@@ -24,32 +24,19 @@ use Rattle.format.proofs.Pieces.{copy-fills}
 use Rattle.format.proofs.Values.{value-short}
 use Rattle.format.proofs.Layouts.{image-length}
 use Rattle.format.proofs.Laying.{drafted-fits}
-use Rattle.strings.proofs.Clearing.{front-zeros}
 use Rattle.rows.specs.Rows.{slotsAt, Stands}
 use Rattle.look.specs.declared.View.{View}
 use Rattle.look.specs.View.{madeIn, Sighted}
 use Rattle.look.proofs.Judged.{seen-most}
 use Rattle.look.proofs.Laws.{Seen}
-use Rattle.image.specs.Drafting.{sealing, unsealed, drafting, Draftable, Drafted}
+use Rattle.image.specs.Drafting.{Fresh, sealing, unsealed, drafting, Draftable, Drafted}
 use Rattle.image.proofs.Laws.{sealed-layout}
 use Rattle.pages.specs.Storing.{lockJudged, countStored, tagStored}
 use Rattle.pages.proofs.Laws.{good-size-whole, lock-step, stored-count, stored-tag}
-use Rattle.editing.specs.Editing.{Fresh, Sized}
+use Rattle.editing.specs.Editing.{Sized}
 use Rattle.editing.proofs.Editor.{valueSteps, edit-known, edit-value, old-room, draft-edits, lock-edits, done-edits}
 use Rattle.editing.proofs.Rows.{old-stands, old-is, edited-slots, edited-draftable}
 use Rattle.editing.proofs.Own.{least, blocks-are, one-piece}
-
--- as many 00 as the tag has bytes are a draft for it: the front of an array that is long enough, and a draft that is cleared
-zeros-fresh : (d t : List ℕ) (m : ℕ) → m ≡ length t → d ≡ replicate m 0 → Fresh d t
-zeros-fresh d t m e z =
-    let l : length d ≡ m = ap length z ∙ length-replicate m 0 in
-    record { long = l ∙ e; blank = z ∙ ap (λ (n : ℕ). replicate n 0) (sym l) }
-
-pub lent-fresh : (t : List ℕ) (m : ℕ) → length t ≤ m → Fresh (take (length t - 0) (replicate m 0)) t
-lent-fresh t m h = zeros-fresh _ t (length t) refl (front-zeros (length t) m h)
-
-pub cleared-fresh : (d d′ t : List ℕ) (m : ℕ) → Fresh d t → m ≡ length d → d′ ≡ replicate m 0 → Fresh d′ t
-cleared-fresh d d′ t m f e z = zeros-fresh d′ t m (e ∙ f .long) z
 
 -- what is known where an edit is put into the row; `seen` is what looking made
 pub record Taken (t locks : List ℕ) (n : ℕ) (s buffer ats lens seen : List ℕ) (v : View) : Type 0 where

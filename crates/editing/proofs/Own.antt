@@ -21,9 +21,8 @@ use Rattle.look.specs.declared.View.{View}
 use Rattle.look.specs.View.{Sighted}
 use Rattle.look.proofs.Judged.{seen-size, seen-readable, seen-clear}
 use Rattle.look.proofs.Laws.{Seen}
-use Rattle.image.specs.Drafting.{withCheck, unsealed, drafting, Draftable, Drafted}
+use Rattle.image.specs.Drafting.{Fresh, withCheck, unsealed, drafting, Draftable, Drafted}
 use Rattle.image.proofs.Laws.{put-check, unsealed-length, own-layout}
-use Rattle.editing.specs.Editing.{Fresh}
 use Rattle.editing.proofs.Rows.{seen-draftable}
 
 not-true : (b : Bool) → (b ≡ true → ⊥) → b ≡ false

@@ -15,7 +15,8 @@ ghost use Rattle.format.specs.Elements.{place, known, value};
 ghost use Rattle.format.specs.Calls.{ownLayout};
 ghost use Rattle.format.specs.Numbers.{stageGiven, Edits};
 ghost use Rattle.look.specs.View.{Sighted};
-ghost use Rattle.editing.specs.Editing.{Fresh, Sized};
+ghost use Rattle.image.specs.Drafting.{Fresh};
+ghost use Rattle.editing.specs.Editing.{Sized};
 
 // Edits one element of a tag: no bytes means remove. The count of pages changed and the old element's length, just that much of the
 // old-element buffer filled, and the tag is the writer's own layout of the edited elements; or the number of the refusal, and nothing

@@ -5,7 +5,7 @@ use native.Mathlib.Omega.{arith}
 use mathlib.Core.Bool.{true}
 use mathlib.Core.List.{List, [], _∷_, _++_, append-assoc, append-nil}
 use lib.Dec.{leb}
-use lib.ListN.{length, take, drop, set, length-set, length-append, length-take, length-drop, take-append-drop}
+use lib.ListN.{length, take, drop, set, replicate, length-set, length-append, length-replicate, length-take, length-drop, take-append-drop}
 use lib.Seq.{take-at, drop-at, take-append-add, drop-drop, length-take-le}
 use borrow.Author.Tests.{le-leb, leb-true}
 use Rattle.format.specs.Bytes.{same, le16, part, padWith, pad}
@@ -19,7 +19,8 @@ use Rattle.format.proofs.Pieces.{stored-byte, stored-then}
 use Rattle.format.proofs.Strings.{nil-of, le16-length, length-pad}
 use Rattle.format.proofs.Layouts.{item-length, owner-length}
 use Rattle.image.specs.Laying.{zeros}
-use Rattle.image.specs.Drafting.{withCheck, checked, sealing, unsealed}
+use Rattle.strings.proofs.Clearing.{front-zeros}
+use Rattle.image.specs.Drafting.{withCheck, checked, sealing, unsealed, Fresh}
 
 -- ---- any bytes in the CRC's place
 
@@ -144,3 +145,17 @@ own-layout t ss blocks least ok fit =
     let is : s ≡ part 19 2 l = same-eq s _ ok ∙ ap (λ (x : List ℕ). le16 (crc x)) (sym covers) ∙ sym (right (length t) ss blocks least fit) in
     sym (ap (λ (x : List ℕ). same x t) (put is)) ∙ e)
     (λ e. ap (λ (x : List ℕ). same x t) (put (ap (part 19 2) (sym (same-eq l t e)))) ∙ e)
+
+-- ---- drafts of 00
+
+-- as many 00 as the tag has bytes are a draft for it: the front of an array that is long enough, and a draft that is cleared
+zeros-fresh : (d t : List ℕ) (m : ℕ) → m ≡ length t → d ≡ replicate m 0 → Fresh d t
+zeros-fresh d t m e z =
+    let l : length d ≡ m = ap length z ∙ length-replicate m 0 in
+    record { long = l ∙ e; blank = z ∙ ap (λ (n : ℕ). replicate n 0) (sym l) }
+
+pub lent-fresh : (t : List ℕ) (m : ℕ) → length t ≤ m → Fresh (take (length t - 0) (replicate m 0)) t
+lent-fresh t m h = zeros-fresh _ t (length t) refl (front-zeros (length t) m h)
+
+pub cleared-fresh : (d d′ t : List ℕ) (m : ℕ) → Fresh d t → m ≡ length d → d′ ≡ replicate m 0 → Fresh d′ t
+cleared-fresh d d′ t m f e z = zeros-fresh d′ t m (e ∙ f .long) z

@@ -23,14 +23,14 @@ use Rattle.format.proofs.Layouts.{owner-length, basic-length}
 use Rattle.format.proofs.Pieces.{stored-none}
 use Rattle.rows.specs.Rows.{slotsAt, Stands}
 use Rattle.rows.proofs.Rows.{row-lengths, slots-length, row-at, slot-at, lengths-are}
-use Rattle.image.specs.Laying.{Sized, OwnerOrNone, fieldsOf, Given, zeros}
+use Rattle.image.specs.Laying.{Lengths, OwnerOrNone, fieldsOf, Given, zeros}
 use Rattle.image.specs.Drafting.{Draftable, unsealed}
 use Rattle.image.proofs.Drafts.{drop-zeros, blank-all, On, start, on-length, put, gap}
 use Rattle.image.proofs.Laws.{front-length, own, tail, shape-front, shape-behind}
 
 -- ---- by the lengths
 
-module _ (ss : List (List ℕ)) (lens : List ℕ) (s : Sized ss lens) where
+module _ (ss : List (List ℕ)) (lens : List ℕ) (s : Lengths ss lens) where
   length-at : (k : ℕ) → length (getD ss k []) ≡ getD lens k 0
   length-at k = sym (List·getD-map length ss k []) ∙ ap (λ (l : List ℕ). getD l k 0) s
 
@@ -68,7 +68,7 @@ module _ {src made ats lens d : List ℕ} (p : Draftable src made ats lens d) wh
   abbrev pub ss : List (List ℕ)
   ss = slotsAt (src ++ made) ats lens
 
-  pub sized : Sized ss lens
+  pub sized : Lengths ss lens
   sized = lengths-are src made ats lens (p .row)
 
   seven : length ats ≡ 7

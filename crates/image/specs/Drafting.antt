@@ -38,6 +38,11 @@ unsealed n ss blocks = withCheck (0 ∷ 0 ∷ []) (layout n ss blocks)
 unfoldable pub drafting : ℕ → List (List ℕ) → List ℕ → Step
 drafting n ss blocks = inOrder (need 10 (not (clash ss)) ∷ need 11 (hasLayout n ss blocks) ∷ []) tt
 
+-- d is a draft of 00 for the tag t
+pub record Fresh (d t : List ℕ) : Type 0 where
+  pub long : length d ≡ length t
+  pub blank : d ≡ replicate (length d) 0
+
 -- a row of values, and a draft of 00 as long as a tag at least
 pub record Draftable (src made ats lens draft : List ℕ) : Type 0 where
   pub row : Row src made ats lens

@@ -12,8 +12,8 @@ use Rattle.format.specs.Layout.{ownerWidth}
 -- ---- elements
 
 -- the slots have these lengths
-abbrev pub Sized : List (List ℕ) → List ℕ → Type 0
-Sized ss lens = map length ss ≡ lens
+abbrev pub Lengths : List (List ℕ) → List ℕ → Type 0
+Lengths ss lens = map length ss ≡ lens
 
 -- an owner, as long as an element may be, or nothing
 pub record OwnerOrNone (o : List ℕ) : Type 0 where

@@ -13,12 +13,12 @@ ghost use Rattle.format.specs.Fields.{long};
 ghost use Rattle.format.specs.Elements.{slot, clash};
 ghost use Rattle.format.specs.Layout.{ownerOf};
 ghost use Rattle.rows.specs.Rows.{Stands};
-ghost use Rattle.image.specs.Laying.{Sized};
+ghost use Rattle.image.specs.Laying.{Lengths};
 ghost use Rattle.image.specs.Drafting.{Draftable, Drafted, sealing};
 
 // Do two elements clash: 3 with 23, or 22 with a 1 longer than 16 bytes.
 fn clashing(lens: &[usize; 7]) -> bool
-    ensures { λ r. ⌜ ((ss : List (List ℕ)) → Sized ss (now (lens .entry)) → r ≡ clash ss) ⌝ }
+    ensures { λ r. ⌜ ((ss : List (List ℕ)) → Lengths ss (now (lens .entry)) → r ≡ clash ss) ⌝ }
 {
     if lens[1] != 0 {
         if lens[6] != 0 {
@@ -44,14 +44,14 @@ fn slot<'a>(
 
 // The place of the owner: the ISIL's, or the alternative owner's where there is none.
 fn owner_place(lens: &[usize; 7]) -> usize
-    ensures { λ r. ⌜ (r < 7) × ((ss : List (List ℕ)) → Sized ss (now (lens .entry)) → getD ss r [] ≡ ownerOf ss) ⌝ }
+    ensures { λ r. ⌜ (r < 7) × ((ss : List (List ℕ)) → Lengths ss (now (lens .entry)) → getD ss r [] ≡ ownerOf ss) ⌝ }
 {
     if lens[1] == 0 { 6 } else { 1 }
 }
 
 // The place of what block 1 has in its item field: an element 1 longer than 16 bytes, else 22.
 fn item_place(lens: &[usize; 7]) -> usize
-    ensures { λ r. ⌜ (r < 7) × ((ss : List (List ℕ)) → Sized ss (now (lens .entry)) → getD ss r [] ≡ if long (slot ss 1) then slot ss 1 else slot ss 22) ⌝ }
+    ensures { λ r. ⌜ (r < 7) × ((ss : List (List ℕ)) → Lengths ss (now (lens .entry)) → getD ss r [] ≡ if long (slot ss 1) then slot ss 1 else slot ss 22) ⌝ }
 {
     if 16 < lens[0] { 0 } else { 5 }
 }

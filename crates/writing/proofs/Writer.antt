@@ -5,7 +5,7 @@ use native.Mathlib.Omega.{arith}
 use mathlib.Core.Bool.{Bool, true, _&&_}
 use mathlib.Core.List.{List, [], _∷_, _++_}
 use lib.Dec.{eqb}
-use lib.ListN.{length, take, drop, replicate, length-drop, length-replicate}
+use lib.ListN.{length, take, drop, length-drop}
 use lib.Seq.{take-all}
 use Rattle.format.specs.Answers.{got, refused, plain, Step, need, inOrder}
 use Rattle.format.specs.Bytes.{joined}
@@ -22,15 +22,13 @@ use Rattle.format.proofs.Answers.{first-no, next-ok, next-inv, none-inv, refuse
 use Rattle.format.proofs.Tests.{and-l}
 use Rattle.format.proofs.Layouts.{size-least, image-length}
 use Rattle.format.proofs.Laying.{draft-refused, drafted-fits, lock-refused, lock-passed}
-use Rattle.strings.proofs.Clearing.{front-zeros}
 use Rattle.rows.specs.Rows.{slotsAt}
 use Rattle.sheet.specs.Scanning.{atsIn, lensIn, carriedAt, scanning, Scanned}
 use Rattle.sheet.proofs.Laws.{Found}
-use Rattle.image.specs.Drafting.{Draftable, Drafted, drafting, sealing, unsealed}
+use Rattle.image.specs.Drafting.{Fresh, Draftable, Drafted, drafting, sealing, unsealed}
 use Rattle.image.proofs.Laws.{sealed-layout}
 use Rattle.pages.specs.Storing.{lockJudged, countStored, tagStored}
 use Rattle.pages.proofs.Laws.{good-size-whole, lock-step, stored-count, stored-tag}
-use Rattle.writing.specs.Writing.{Writable}
 
 module _ (s t locks : List ℕ) where
   abbrev c : Content
@@ -86,16 +84,6 @@ module _ (s t locks : List ℕ) where
             let a : writing pageSize s t locks .answer ≡ got (changed pageSize t new) = reached ∙ lock-passed pageSize locks t c _ d l in
             record { answered = ap got e ∙ sym a; left = g ∙ sym (afterwards-got (writing pageSize s t locks .answer) (changed pageSize t new) new t a) }
 
--- ---- the draft
-
--- the front of an array of 00 that is long enough
-pub lent-writable : (t locks : List ℕ) (m : ℕ) → goodSize pageSize (length t) && lockMap pageSize locks (length t) ≡ true → length t ≤ m → Writable (take (length t - 0) (replicate m 0)) t locks
-lent-writable t locks m z h =
-    let lent : List ℕ = take (length t - 0) (replicate m 0) in
-    let e : lent ≡ replicate (length t) 0 = front-zeros (length t) m h in
-    let l : length lent ≡ length t = ap length e ∙ length-replicate (length t) 0 in
-    record { sized = z; long = l; blank = e ∙ ap (λ (n : ℕ). replicate n 0) (sym l) }
-
 -- ---- what scanning left
 
 pub record Good (s : List ℕ) (k : ℕ) (ats′ lens′ : List ℕ) : Type 0 where
@@ -125,7 +113,7 @@ module _ (s ats lens : List ℕ) (r : NumberAnswer) (ats′ lens′ : List ℕ) 
 
 -- ---- a good sheet, drafted, sealed and stored
 
-module _ (s t locks d₀ ats lens : List ℕ) (k : ℕ) (w : Writable d₀ t locks) (g : Good s k ats lens) (f : Found s) where
+module _ (s t locks d₀ ats lens : List ℕ) (k : ℕ) (w : Fresh d₀ t) (z : goodSize pageSize (length t) && lockMap pageSize locks (length t) ≡ true) (g : Good s k ats lens) (f : Found s) where
   pub carried-inside : k ≤ length s
   carried-inside = rw (g .carried) (f .carried-inside)
 
@@ -139,7 +127,7 @@ module _ (s t locks d₀ ats lens : List ℕ) (k : ℕ) (w : Writable d₀ t loc
   slots-are = rw (g .ats, g .lens) (f .slots)
 
   least : 32 ≤ length t
-  least = size-least pageSize (length t) (and-l (goodSize pageSize (length t)) (lockMap pageSize locks (length t)) (w .sized))
+  least = size-least pageSize (length t) (and-l (goodSize pageSize (length t)) (lockMap pageSize locks (length t)) z)
 
   pub good-draftable : Draftable s [] ats lens d₀
   good-draftable = record { row = rw (g .ats, g .lens) (f .row); values = ap (valuesAt numbers) slots-are ∙ f .values; size = omega (arith, w .long, least); blank = w .blank }
@@ -149,7 +137,7 @@ module _ (s t locks d₀ ats lens : List ℕ) (k : ℕ) (w : Writable d₀ t loc
     drafted = h .answered ∙ rw (w .long, slots-are, blocks-are)
 
     pub drafted-refused : (j n : ℕ) → stageGiven r ≡ refused (plain j) → n ≡ j → Writes s t locks (number.Refused n) t
-    drafted-refused j n e q = draft-writes s t locks (w .sized) (g .right) (g .values) j n (sym drafted ∙ e) q
+    drafted-refused j n e q = draft-writes s t locks z (g .right) (g .values) j n (sym drafted ∙ e) q
 
     module _ (p : stageGiven r ≡ got tt) (d₂ : List ℕ) (q : d₂ ≡ sealing d₁) where
       passed : drafting (length t) (sheetContent s .slots) (joined (sheetContent s .carried)) ≡ got tt
@@ -172,10 +160,10 @@ module _ (s t locks d₀ ats lens : List ℕ) (k : ℕ) (w : Writable d₀ t loc
         judged = l ∙ lock-step pageSize d₂ t long locks ∙ ap (λ (x : List ℕ). need 12 (eqb (lockedChanged pageSize locks t x) 0)) sealed
 
         pub locked-refused : (j n : ℕ) → stageGiven u ≡ refused (plain j) → n ≡ j → Writes s t locks (number.Refused n) t
-        locked-refused j n e q = lock-writes s t locks (w .sized) (g .right) (g .values) passed j n (sym judged ∙ e) q
+        locked-refused j n e q = lock-writes s t locks z (g .right) (g .values) passed j n (sym judged ∙ e) q
 
         pub stored-writes : stageGiven u ≡ got tt → (n : ℕ) (tag : List ℕ) → n ≡ countStored pageSize d₂ t → tag ≡ tagStored pageSize d₂ t → Writes s t locks (number.Done n) tag
         stored-writes e n tag ec et =
-            let z : length t % pageSize ≡ 0 = good-size-whole pageSize (length t) refl (and-l (goodSize pageSize (length t)) (lockMap pageSize locks (length t)) (w .sized)) in
-            done-writes s t locks (w .sized) (g .right) (g .values) passed (sym judged ∙ e) n tag
-            (ec ∙ stored-count pageSize d₂ t long ∙ ap (changed pageSize t) sealed) (et ∙ stored-tag pageSize d₂ t long z ∙ sealed)
+            let whole : length t % pageSize ≡ 0 = good-size-whole pageSize (length t) refl (and-l (goodSize pageSize (length t)) (lockMap pageSize locks (length t)) z) in
+            done-writes s t locks z (g .right) (g .values) passed (sym judged ∙ e) n tag
+            (ec ∙ stored-count pageSize d₂ t long ∙ ap (changed pageSize t) sealed) (et ∙ stored-tag pageSize d₂ t long whole ∙ sealed)

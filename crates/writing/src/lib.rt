@@ -1,8 +1,12 @@
 // Writing a sheet onto a tag.
 use format::NumberAnswer;
 use format::Stage;
+ghost use mathlib.Core.Path.{_≡_};
+ghost use mathlib.Core.Bool.{true, _&&_};
+ghost use lib.ListN.{length};
+ghost use Rattle.format.specs.Pages.{pageSize, goodSize, lockMap};
 ghost use Rattle.format.specs.Numbers.{Writes};
-ghost use Rattle.writing.specs.Writing.{Writable};
+ghost use Rattle.image.specs.Drafting.{Fresh};
 
 // Writes a sheet onto a tag: the count of pages changed, and the tag is the writer's own layout of the sheet's elements; or the number of
 // the refusal, and nothing changed. What the tag held is not judged.
@@ -25,7 +29,7 @@ pub fn write(sheet: &[u8], tag: &mut [u8], locks: &[u8]) -> NumberAnswer
 
 // Writes by way of a draft of 00, as long as the tag.
 fn write_on(draft: &mut [u8], sheet: &[u8], tag: &mut [u8], locks: &[u8]) -> NumberAnswer
-    requires { ⌜ Writable (now draft) (now tag) (now locks) ⌝ }
+    requires { ⌜ Fresh (now draft) (now tag) × ((goodSize pageSize (length (now tag)) && lockMap pageSize (now locks) (length (now tag))) ≡ true) ⌝ }
     ensures { λ r. ⌜ Writes (now (sheet .entry)) (now (tag .entry)) (now (locks .entry)) r (now (tag .exit)) ⌝ }
 {
     let mut ats = [0usize; 7];

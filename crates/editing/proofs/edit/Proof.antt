@@ -7,9 +7,9 @@ use Rattle.format.specs.Numbers.{numberOf, stageGiven}
 use Rattle.format.proofs.Tests.{and-l}
 use Rattle.format.proofs.Answers.{need-inv}
 use Rattle.format.proofs.Layouts.{size-most}
+use Rattle.image.proofs.Laws.{lent-fresh}
 use Rattle.editing.specs.Editing.{Sized}
 use Rattle.editing.proofs.Editor.{size-edits}
-use Rattle.editing.proofs.Edited.{lent-fresh}
 use borrow.Author.Needs.{needs}
 use Rattle.editing.proofs.edit.Statement.{statement}
 use Rattle.editing.proofs.edit.Tie as tie

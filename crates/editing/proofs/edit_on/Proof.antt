@@ -12,10 +12,11 @@ use Rattle.format.proofs.Answers.{need-inv}
 use Rattle.look.specs.View.{lookGiven, Sighted}
 use Rattle.look.proofs.Judged.{looked-sighted, looked-refused}
 use Rattle.look.proofs.Laws.{Seen, look-seen}
-use Rattle.editing.specs.Editing.{Fresh}
+use Rattle.image.specs.Drafting.{Fresh}
+use Rattle.image.proofs.Laws.{cleared-fresh}
 use Rattle.editing.proofs.Editor.{look-edits, own-edits, value-edits}
 use Rattle.editing.proofs.Own.{own-inside, made-long}
-use Rattle.editing.proofs.Edited.{Taken, Put, cleared-fresh, put-asks, old-fits, full-length, edited-asks, old-there, old-bytes, drafted-refused, locked-refused, stored-edits}
+use Rattle.editing.proofs.Edited.{Taken, Put, put-asks, old-fits, full-length, edited-asks, old-there, old-bytes, drafted-refused, locked-refused, stored-edits}
 use borrow.Author.Needs.{needs}
 use Rattle.editing.proofs.edit_on.Statement.{statement}
 use Rattle.editing.proofs.edit_on.Tie as tie

@@ -8,7 +8,8 @@ use Rattle.format.specs.Numbers.{numberOf, stageGiven}
 use Rattle.format.proofs.Tests.{and-l}
 use Rattle.format.proofs.Answers.{need-inv}
 use Rattle.format.proofs.Layouts.{size-most}
-use Rattle.writing.proofs.Writer.{size-writes, lent-writable}
+use Rattle.image.proofs.Laws.{lent-fresh}
+use Rattle.writing.proofs.Writer.{size-writes}
 use borrow.Author.Needs.{needs}
 use Rattle.writing.proofs.write.Statement.{statement}
 use Rattle.writing.proofs.write.Tie as tie
@@ -52,7 +53,7 @@ part-draft-end : tie.Need-part-draft-end
 part-draft-end c = search needs
 
 write-on-requires : tie.Need-write-on-requires
-write-on-requires c κs = let t = c .before .before in lent-writable _ _ 256 (passed (t .before)) (t .if1 .taken)
+write-on-requires c κs = let t = c .before .before in (lent-fresh _ 256 (t .if1 .taken), passed (t .before))
 
 same-length : tie.Need-same-length
 same-length c = search needs
@@ -70,7 +71,7 @@ part-draft-end-2 : tie.Need-part-draft-end-2
 part-draft-end-2 c = most (c .before)
 
 write-on-requires-2 : tie.Need-write-on-requires-2
-write-on-requires-2 c κs = let k = c .before .before .before in lent-writable _ _ 2048 (passed k) (most k)
+write-on-requires-2 c κs = let k = c .before .before .before in (lent-fresh _ 2048 (most k), passed k)
 
 same-length-2 : tie.Need-same-length-2
 same-length-2 c = search needs

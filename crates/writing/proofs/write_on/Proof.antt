@@ -22,7 +22,7 @@ enum-told c = search needs
 returns : tie.Need-returns
 returns c =
     let k = c .before .before in
-    scanned-refused _ _ _ _ _ _ (k .scan .ensures) _ _ (at-start k .pre .sized) _ (c .enum-told .given .1)
+    scanned-refused _ _ _ _ _ _ (k .scan .ensures) _ _ (at-start k .pre .1) _ (c .enum-told .given .1)
 
 enum-known-scanned : tie.Need-enum-known-scanned
 enum-known-scanned c = search needs
@@ -47,7 +47,7 @@ part-draft-end : tie.Need-part-draft-end
 part-draft-end c = search needs
 
 inside : (k : tie.After-scanned) → k .scanned .given .0 .0 ≤ length (at-start (at-scan k) .args .sheet .now)
-inside k = carried-inside _ _ _ _ _ _ _ (at-start (at-scan k) .pre) (good k) (found k)
+inside k = carried-inside _ _ _ _ _ _ _ (at-start (at-scan k) .pre .0) (at-start (at-scan k) .pre .1) (good k) (found k)
 
 sub-draft-2 : tie.Need-sub-draft-2
 sub-draft-2 c = inside (c .before .before .before .before)
@@ -61,7 +61,7 @@ part-draft-end-2 c = search needs
 draft-requires : tie.Need-draft-requires
 draft-requires c κs =
     let k = c .before .before .before .before .before .before in
-    good-draftable _ _ _ _ _ _ _ (at-start (at-scan k) .pre) (good k) (found k)
+    good-draftable _ _ _ _ _ _ _ (at-start (at-scan k) .pre .0) (at-start (at-scan k) .pre .1) (good k) (found k)
 
 enum-told-2 : tie.Need-enum-told-2
 enum-told-2 c = search needs
@@ -81,7 +81,7 @@ returns-2 c =
     let d = c .before .before .before .before .before in
     let k = at-scanned d in
     let told = ap stageGiven (c .before .enum-told3 .given .1) in
-    drafted-refused _ _ _ _ _ _ _ (at-start (at-scan k) .pre) (good k) (found k) _ _ (d .draft .ensures) _ _ told (c .stage-number .ensures ∙ ap numberOf told)
+    drafted-refused _ _ _ _ _ _ _ (at-start (at-scan k) .pre .0) (at-start (at-scan k) .pre .1) (good k) (found k) _ _ (d .draft .ensures) _ _ told (c .stage-number .ensures ∙ ap numberOf told)
 
 seal-requires : tie.Need-seal-requires
 seal-requires c κs = search needs
@@ -108,7 +108,7 @@ returns-3 c =
     let d = at-draft l in
     let k = at-scanned d in
     let told = ap stageGiven (c .before .enum-told5 .given .1) in
-    locked-refused _ _ _ _ _ _ _ (at-start (at-scan k) .pre) (good k) (found k) _ _ (d .draft .ensures) (ap stageGiven (l .before .before .before .before .before .before .before .enum-told2 .given .1)) _
+    locked-refused _ _ _ _ _ _ _ (at-start (at-scan k) .pre .0) (at-start (at-scan k) .pre .1) (good k) (found k) _ _ (d .draft .ensures) (ap stageGiven (l .before .before .before .before .before .before .before .enum-told2 .given .1)) _
     (l .before .before .before .before .before .seal .ensures) (l .lock-stage .result) (l .lock-stage .ensures) _ _ told (c .stage-number2 .ensures ∙ ap numberOf told)
 
 store-requires : tie.Need-store-requires
@@ -135,7 +135,7 @@ returns-4 c =
     let l = s .before .before .before .before .before in
     let d = at-draft l in
     let k = at-scanned d in
-    stored-writes _ _ _ _ _ _ _ (at-start (at-scan k) .pre) (good k) (found k) _ _ (d .draft .ensures) (ap stageGiven (l .before .before .before .before .before .before .before .enum-told2 .given .1)) _
+    stored-writes _ _ _ _ _ _ _ (at-start (at-scan k) .pre .0) (at-start (at-scan k) .pre .1) (good k) (found k) _ _ (d .draft .ensures) (ap stageGiven (l .before .before .before .before .before .before .before .enum-told2 .given .1)) _
     (l .before .before .before .before .before .seal .ensures) (l .lock-stage .result) (l .lock-stage .ensures) (ap stageGiven (s .before .before .before .enum-told4 .given .1)) _ _ (s .store .ensures .0) (s .store .ensures .1)
 
 pub write-on-spec : {M : Type 1} → statement M
