@@ -51,11 +51,16 @@
    OF EVERY CALL
    The answer is 0 when the work is done, else the number of the refusal, one of
    those below. The conditions are tested in the order that is given with the
-   call, each over the whole input: the answer is the first that holds.
-   At a refusal nothing changes: no byte of any buffer, and none of the results.
+   call, each over the whole input: the answer is the first that holds. Damage
+   alone (15 to 19) is tested from block to block: the first damaged block
+   decides, and at that block the first of 15 16 17 18 19 that holds.
+   At a refusal nothing changes: no byte of any buffer, and none of the results
+   but *place. That is written at 15 to 19: the byte where the damaged block
+   begins, counted from 0 at the tag's first byte, so at least 34 and below
+   tag_len. At every other answer, 0 among them, it is as it was.
    A length of 0 means no bytes, and the pointer beside it may then be null. A
    length is never more than what the buffer has. The results (used, pages,
-   old_used) are never null.
+   old_used, place) are never null.
    The buffers and results of one call are separate: none overlaps another.
    Nothing is kept from one call to the next and nothing is allocated, so calls
    on different buffers may run at the same time.
@@ -109,7 +114,6 @@ extern "C" {
                            255 bytes */
 #define URP_CONTENT 3   /* content parameter not 1 */
 #define URP_CHECK 4     /* CRC differs */
-#define URP_BLOCK 5     /* damage in the chain of blocks */
 #define URP_FIELD 6     /* a field breaks its form, or the tag has an ordinal
                            above its parts */
 #define URP_MISMATCH 7  /* usage, marker and block 1 disagree */
@@ -121,16 +125,29 @@ extern "C" {
 #define URP_LOOSE 13    /* editing: readable, but not the writer's own layout */
 #define URP_OFFSET 14   /* reading: an offset would pass 65,535 */
 
+/* Damage in the chain of blocks, with the damaged block's place in *place.
+   5, which once stood for all of these, is no longer given. */
+#define URP_BLOCK_LENGTH 15    /* a block says that its length is 2 */
+#define URP_BLOCK_END 16       /* a block runs past the tag's end */
+#define URP_BLOCK_ID 17        /* a block has ID 0; or an ID of 1 to 100 and
+                                  fewer than 4 bytes */
+#define URP_BLOCK_CHECKSUM 18  /* a block's checksum differs */
+#define URP_BLOCK_SECOND 19    /* a second block 1 */
+
+/* Is this an answer that comes with a place? */
+#define URP_HAS_PLACE(answer) ((answer) >= 15 && (answer) <= 19)
+
 /* Reads a tag into a sheet.
    Takes   tag[0 .. tag_len): the tag. It is only read.
            sheet[0 .. sheet_len): room for the sheet; URP_SHEET_MAX always
            suffices, and room for exactly the sheet is enough.
    Done    sheet[0 .. *used) is the sheet and *used its length; the bytes of
            the buffer from there on are as they were.
-   Refuses 1 3 4 5 6 7 14 2, in this order. */
+   Refuses 1 3 4 15-19 6 7 14 2, in this order; at 15 to 19 *place is where
+           the damaged block begins. */
 uint32_t urp_read(const uint8_t *tag, size_t tag_len,
                   uint8_t *sheet, size_t sheet_len,
-                  size_t *used);
+                  size_t *used, size_t *place);
 
 /* Lays a sheet out on a tag, whatever the tag held before.
    Takes   sheet[0 .. sheet_len): the whole sheet. It is only read.
@@ -164,15 +181,16 @@ uint32_t urp_write(const uint8_t *sheet, size_t sheet_len,
            changes 0 pages. Handing the old element back as value, under the
            same lock map, undoes the edit and counts the same pages; value and
            old are separate, so copy it first.
-   Refuses 1 3 4 5 6 7 13 2 9 10 11 12, in this order. Removing 4 or 5 is 9; so
-           are 255, any other number that is not in the table, and more than
-           255 new bytes. */
+   Refuses 1 3 4 15-19 6 7 13 2 9 10 11 12, in this order; at 15 to 19 *place
+           is where the damaged block begins. Removing 4 or 5 is 9; so are 255,
+           any other number that is not in the table, and more than 255 new
+           bytes. */
 uint32_t urp_edit(uint8_t *tag, size_t tag_len,
                   const uint8_t *locks, size_t locks_len,
                   uint32_t number,
                   const uint8_t *value, size_t value_len,
                   uint8_t *old, size_t old_len,
-                  size_t *pages, size_t *old_used);
+                  size_t *pages, size_t *old_used, size_t *place);
 
 #ifdef __cplusplus
 }

@@ -25,7 +25,6 @@ URP_HERE const char *urp_refusal_text(uint32_t answer)
     case URP_ROOM: return "room: the buffer for the result is too short";
     case URP_CONTENT: return "content: the content parameter is not 1";
     case URP_CHECK: return "check: the CRC differs";
-    case URP_BLOCK: return "block: the chain of blocks is damaged";
     case URP_FIELD: return "field: a field of the tag breaks its form";
     case URP_MISMATCH: return "mismatch: usage, marker and block 1 disagree";
     case URP_SHEET: return "sheet: header, order, offsets or end are wrong";
@@ -35,6 +34,11 @@ URP_HERE const char *urp_refusal_text(uint32_t answer)
     case URP_LOCKED: return "locked: a locked page would get other bytes";
     case URP_LOOSE: return "loose: readable, but not the writer's own layout";
     case URP_OFFSET: return "offset: an offset would pass 65,535";
+    case URP_BLOCK_LENGTH: return "block: it says that its length is 2";
+    case URP_BLOCK_END: return "block: it runs past the tag's end";
+    case URP_BLOCK_ID: return "block: its ID is 0, or it has too few bytes";
+    case URP_BLOCK_CHECKSUM: return "block: its checksum differs";
+    case URP_BLOCK_SECOND: return "block: it is a second block 1";
     default: return "not an answer of this library";
     }
 }
