@@ -1,5 +1,3 @@
-pub mod Counted
-pub mod Chain
 pub mod Places
 pub mod Formed
 pub mod Laws

@@ -1,14 +1,18 @@
 -- Laws of answers and steps. The last two say for every call at once when it refuses and when it does its work.
 use mathlib.Core.Path.{_≡_, refl, ap}
+use mathlib.Core.Logic.{_⊎_, inl, inr}
 use Prim.Native.Nat.{ℕ}
 use mathlib.Core.Bool.{Bool, true, false}
 use mathlib.Core.List.{List, [], _∷_, _++_}
-use Rattle.format.specs.Answers.{Answer, Refusal, plain, got, refused, Step, need, inOrder, Passed, none, more, FirstRefusal, here, later, afterwards, andThen, orElse, passed}
+use Rattle.format.specs.Answers.{Answer, Refusal, plain, placed, got, refused, Step, need, needAt, inOrder, Passed, none, more, FirstRefusal, here, later, afterwards, andThen, orElse, passed}
 use Rattle.format.proofs.Tests.{never}
 
 -- (`cc` says it too, but computes all that is in reach: name it where much is)
 pub got-inj : {A : Type 0} {a b : A} → got a ≡ got b → a ≡ b
 got-inj e = cc
+
+pub refused-inj : {A : Type 0} {x y : Refusal} → _≡_ {A = Answer A} (refused x) (refused y) → x ≡ y
+refused-inj e = cc
 
 -- ---- one step
 
@@ -30,6 +34,20 @@ unfolding need
 need-refused n true x e = never (cc)
 need-refused n false x e = (refl, cc)
 
+pub need-at-ok : (p n : ℕ) (b : Bool) → b ≡ true → needAt p n b ≡ got tt
+unfolding needAt
+need-at-ok p n b e = rw e
+
+pub need-at-inv : (p n : ℕ) (b : Bool) (u : Unit {0}) → needAt p n b ≡ got u → b ≡ true
+unfolding needAt
+need-at-inv p n true u e = refl
+need-at-inv p n false u e = never (cc)
+
+pub need-at-refused : (p n : ℕ) (b : Bool) (x : Refusal) → needAt p n b ≡ refused x → x ≡ placed n p
+unfolding needAt
+need-at-refused p n true x e = never (cc)
+need-at-refused p n false x e = cc
+
 -- ---- going on with what was got
 
 pub then-ok : {A B : Type 0} (m : Answer A) (f : A → Answer B) (a : A) → m ≡ got a → andThen m f ≡ f a
@@ -44,6 +62,12 @@ pub then-inv : {A B : Type 0} (m : Answer A) (f : A → Answer B) (b : B) → an
 unfolding andThen
 then-inv (got a) f b e = (a, refl, e)
 then-inv (refused x) f b e = never (cc)
+
+pub then-refused : {A B : Type 0} (m : Answer A) (f : A → Answer B) (x : Refusal) → andThen m f ≡ refused x
+    → (m ≡ refused x) ⊎ ((a : A) × (m ≡ got a) × (f a ≡ refused x))
+unfolding andThen
+then-refused (got a) f x e = inr (a, refl, e)
+then-refused (refused y) f x e = inl (let k : y ≡ x = cc in ap refused k)
 
 pub or-else-got : {A : Type 0} (m : Answer A) (a other : A) → m ≡ got a → orElse m other ≡ a
 unfolding orElse
@@ -90,6 +114,10 @@ none-ok a = refl
 pub none-inv : {A : Type 0} (a b : A) → inOrder [] a ≡ got b → a ≡ b
 unfolding inOrder
 none-inv a b e = got-inj e
+
+pub none-refuses : {A C : Type 0} (a : A) (x : Refusal) → inOrder [] a ≡ refused x → C
+unfolding inOrder
+none-refuses a x e = never (cc)
 
 -- the last step is the answer
 pub last-step : (s : Step) → inOrder (s ∷ []) tt ≡ s

@@ -7,14 +7,14 @@ use mathlib.Core.Bool.{Bool, true, false, not, _&&_, _||_}
 use mathlib.Core.List.{List, [], _∷_, _++_, append-assoc}
 use lib.Dec.{eqb, leb}
 use lib.ListN.{length, take, drop, getD, replicate, length-append, List·getD-append}
-use lib.Seq.{take-at, drop-at}
-use borrow.Author.Tests.{eqb-true, eq-eqb, ne-eqb, leb-true, le-leb}
-use Rattle.format.specs.Answers.{got, need, andThen}
+use lib.Seq.{getD-take, take-at, drop-at}
+use borrow.Author.Tests.{eqb-true, eqb-false, eq-eqb, ne-eqb, leb-true, le-leb}
+use Rattle.format.specs.Answers.{got, needAt, inOrder, andThen}
 use Rattle.format.specs.Bytes.{if_then_else_, isEmpty, all, le16, word, xorAll, strip, past, joined, trim}
 use Rattle.format.specs.Fields.{text, isOwner}
-use Rattle.format.specs.Chain.{idOf, wellFormed, isLibrary, carriable, walk, chain, libraryBlock, otherBlocks, Library, payload, lastField, libraryIn, goodLibrary, libraryBytes, sealed, blockOne}
+use Rattle.format.specs.Chain.{lengthOf, idOf, whole, named, summed, wellFormed, isLibrary, carriable, damageSteps, damageOf, walk, chain, libraryBlock, otherBlocks, Library, payload, lastField, libraryIn, goodLibrary, libraryBytes, sealed, blockOne}
 use Rattle.format.proofs.Tests.{and-l, and-r, and-i, not-t}
-use Rattle.format.proofs.Answers.{got-inj, need-ok, need-inv, then-ok, then-inv}
+use Rattle.format.proofs.Answers.{got-inj, need-at-ok, need-at-inv, then-ok, then-inv, first-ok, first-inv, none-ok}
 use Rattle.format.proofs.Strings.{word-le16, solid, up-to-before, past-before, strip-strip, head-strip, drop-strip, up-to-strip, past-strip}
 use Rattle.format.proofs.Xor.{xor-closed}
 
@@ -37,43 +37,86 @@ unfolding sealed
 sealed-xor id p = xor-closed ((length p + 4) ∷ le16 id) p
 
 pub sealed-well : (id : ℕ) (p : List ℕ) → 1 ≤ id → id ≤ 100 → wellFormed (sealed id p) ≡ true
-unfolding wellFormed
+unfolding wellFormed named summed
 sealed-well id p lo hi =
     let l = sealed-length id p in
+    let says : whole (sealed id p) ≡ true = eq-eqb (lengthOf (sealed id p)) (length (sealed id p)) (sealed-first id p ∙ sym l) in
     rw (sealed-id id p (omega arith), le-leb id 100 hi, ne-eqb id 0 (omega arith))
-    (and-i (and-i (and-i (le-leb 3 (length (sealed id p)) (omega arith)) (eq-eqb (getD (sealed id p) 0 0) (length (sealed id p)) (sealed-first id p ∙ sym l))) refl)
-    (and-i (le-leb 4 (length (sealed id p)) (omega arith)) (eq-eqb (xorAll (sealed id p)) 0 (sealed-xor id p))))
+    (and-i (and-i (and-i (le-leb 3 (length (sealed id p)) (omega arith)) says) (le-leb 4 (length (sealed id p)) (omega arith))) (eq-eqb (xorAll (sealed id p)) 0 (sealed-xor id p)))
 
 -- ---- a well-formed block
 
 pub record Whole (b : List ℕ) : Type 0 where
   pub long : 3 ≤ length b
-  pub says : getD b 0 0 ≡ length b
-  pub named : eqb (idOf b) 0 ≡ false
+  pub says : lengthOf b ≡ length b
+  pub id-there : eqb (idOf b) 0 ≡ false
+  pub good-name : named b ≡ true
+  pub good-sum : summed b ≡ true
+
+named-id : (b : List ℕ) → named b ≡ true → eqb (idOf b) 0 ≡ false
+unfolding named
+named-id b h = not-t (eqb (idOf b) 0) (and-l (not (eqb (idOf b) 0)) _ h)
 
 pub well-facts : (b : List ℕ) → wellFormed b ≡ true → Whole b
 unfolding wellFormed
 well-facts b w =
     let x : Bool = leb 3 (length b) in
-    let y : Bool = eqb (getD b 0 0) (length b) in
-    let z : Bool = not (eqb (idOf b) 0) in
-    let h = and-l (x && y && z) _ w in
-    let xy = and-l (x && y) z h in
-    record { long = leb-true 3 (length b) (and-l x y xy); says = eqb-true (getD b 0 0) (length b) (and-r x y xy); named = not-t (eqb (idOf b) 0) (and-r (x && y) z h) }
+    let h = and-l (x && whole b && named b) (summed b) w in
+    let xy = and-l (x && whole b) (named b) h in
+    let n = and-r (x && whole b) (named b) h in
+    record {
+      long = leb-true 3 (length b) (and-l x (whole b) xy);
+      says = eqb-true (lengthOf b) (length b) (and-r x (whole b) xy);
+      id-there = named-id b n;
+      good-name = n;
+      good-sum = and-r (x && whole b && named b) (summed b) w;
+    }
 
 pub carried-facts : (b : List ℕ) → carriable b ≡ true → (wellFormed b ≡ true) × (isLibrary b ≡ false)
 unfolding carriable
 carried-facts b h = (and-l (wellFormed b) (not (isLibrary b)) h, not-t (isLibrary b) (and-r (wellFormed b) (not (isLibrary b)) h))
 
+-- ---- its damage
+
+-- a well-formed block that is no second block 1 has none
+pub no-damage : (p : ℕ) (seen : Bool) (b : List ℕ) → wellFormed b ≡ true → not (isLibrary b && seen) ≡ true → damageOf p seen b ≡ got tt
+unfolding damageSteps
+no-damage p seen b w o =
+    let k = well-facts b w in
+    let three : lengthOf b ≡ 2 → ⊥ = λ e. omega (arith, k .long, k .says) in
+    first-ok _ _ tt (need-at-ok p 15 _ (ap not (ne-eqb (lengthOf b) 2 three))) ∙ first-ok _ _ tt (need-at-ok p 16 _ (eq-eqb (lengthOf b) (length b) (k .says)))
+    ∙ first-ok _ _ tt (need-at-ok p 17 _ (k .good-name)) ∙ first-ok _ _ tt (need-at-ok p 18 _ (k .good-sum)) ∙ first-ok _ _ tt (need-at-ok p 19 _ o) ∙ none-ok tt
+
+-- and one that has none, and is no filler, is well formed
+pub undamaged : (p : ℕ) (seen : Bool) (b : List ℕ) (u : Unit {0}) → 2 ≤ lengthOf b → damageOf p seen b ≡ got u → (wellFormed b ≡ true) × (not (isLibrary b && seen) ≡ true)
+unfolding damageSteps wellFormed
+undamaged p seen b u two e =
+    let l = first-inv _ _ tt u e in
+    let w = first-inv _ _ tt u (l .1) in
+    let n = first-inv _ _ tt u (w .1) in
+    let s = first-inv _ _ tt u (n .1) in
+    let o = first-inv _ _ tt u (s .1) in
+    let all-there : whole b ≡ true = need-at-inv p 16 _ tt (w .0) in
+    let three : lengthOf b ≡ 2 → ⊥ = eqb-false (lengthOf b) 2 (not-t _ (need-at-inv p 15 _ tt (l .0))) in
+    let long : 3 ≤ length b = omega (arith, two, three, eqb-true (lengthOf b) (length b) all-there) in
+    (and-i (and-i (and-i (le-leb 3 (length b) long) all-there) (need-at-inv p 17 _ tt (n .0))) (need-at-inv p 18 _ tt (s .0)), need-at-inv p 19 _ tt (o .0))
+
 -- ---- the walk
+
+-- a length that is not 0 and no filler's
+pub some-block : (n : ℕ) → eqb n 0 ≡ false → eqb n 1 ≡ false → 2 ≤ n
+some-block n z o =
+    let nonzero : n ≡ 0 → ⊥ = eqb-false n 0 z in
+    let not-one : n ≡ 1 → ⊥ = eqb-false n 1 o in
+    omega arith
 
 -- What holds where a walk ends, and before a filler or a block where it holds behind it, holds of each walk that ends well.
 pub walk-induct : (P : List ℕ → List (List ℕ) → Type 0) → ((s : List ℕ) → P s []) → ((s : List ℕ) (bs : List (List ℕ)) → P (drop 1 s) bs → P s bs)
     → ((s : List ℕ) (bs : List (List ℕ)) → wellFormed (take (getD s 0 0) s) ≡ true → P (drop (getD s 0 0) s) bs → P s (take (getD s 0 0) s ∷ bs))
-    → (f : ℕ) (seen : Bool) (s : List ℕ) (bs : List (List ℕ)) → walk f seen s ≡ got bs → P s bs
+    → (f p : ℕ) (seen : Bool) (s : List ℕ) (bs : List (List ℕ)) → walk f p seen s ≡ got bs → P s bs
 unfolding walk
-walk-induct P end filler block zero seen s bs e = subst (P s) (got-inj e) (end s)
-walk-induct P end filler block (suc f) seen s bs e = go (eqb (getD s 0 0) 0) (eqb (getD s 0 0) 1) e (walk-induct P end filler block f)
+walk-induct P end filler block zero p seen s bs e = subst (P s) (got-inj e) (end s)
+walk-induct P end filler block (suc f) p seen s bs e = go (eqb (getD s 0 0) 0) refl (eqb (getD s 0 0) 1) refl e (walk-induct P end filler block f)
   where
     n : ℕ
     n = getD s 0 0
@@ -81,49 +124,50 @@ walk-induct P end filler block (suc f) seen s bs e = go (eqb (getD s 0 0) 0) (eq
     b : List ℕ
     b = take n s
 
-    go : (x z : Bool)
-        → (if x then got [] else if z then walk f seen (drop 1 s) else andThen (need 5 (wellFormed b && not (isLibrary b && seen))) λ _. andThen (walk f (isLibrary b || seen) (drop n s)) λ bs. got (b ∷ bs)) ≡ got bs
-        → ((seen : Bool) (s : List ℕ) (bs : List (List ℕ)) → walk f seen s ≡ got bs → P s bs) → P s bs
-    go true z e ih = subst (P s) (got-inj e) (end s)
-    go false true e ih = filler s bs (ih seen (drop 1 s) bs e)
-    go false false e ih =
-        let h = then-inv (need 5 (wellFormed b && not (isLibrary b && seen))) _ bs e in
-        let d = then-inv (walk f (isLibrary b || seen) (drop n s)) _ bs (h .2) in
-        let w = and-l (wellFormed b) (not (isLibrary b && seen)) (need-inv 5 _ (h .0) (h .1)) in
-        subst (P s) (got-inj (d .2)) (block s (d .0) w (ih (isLibrary b || seen) (drop n s) (d .0) (d .1)))
+    go : (x : Bool) → eqb n 0 ≡ x → (z : Bool) → eqb n 1 ≡ z
+        → (if x then got [] else if z then walk f (p + 1) seen (drop 1 s) else andThen (damageOf p seen b) λ _. andThen (walk f (p + n) (isLibrary b || seen) (drop n s)) λ bs. got (b ∷ bs)) ≡ got bs
+        → ((p : ℕ) (seen : Bool) (s : List ℕ) (bs : List (List ℕ)) → walk f p seen s ≡ got bs → P s bs) → P s bs
+    go true ex z ez e ih = subst (P s) (got-inj e) (end s)
+    go false ex true ez e ih = filler s bs (ih (p + 1) seen (drop 1 s) bs e)
+    go false ex false ez e ih =
+        let h = then-inv (damageOf p seen b) _ bs e in
+        let d = then-inv (walk f (p + n) (isLibrary b || seen) (drop n s)) _ bs (h .2) in
+        let two : 2 ≤ n = some-block n ex ez in
+        let says : lengthOf b ≡ n = getD-take n s 0 0 (omega arith) in
+        subst (P s) (got-inj (d .2)) (block s (d .0) (undamaged p seen b (h .0) (omega arith) (h .1) .0) (ih (p + n) (isLibrary b || seen) (drop n s) (d .0) (d .1)))
 
 -- a block at the front is taken, and the walk goes on behind it
-step : (f : ℕ) (seen : Bool) (b r : List ℕ) → wellFormed b ≡ true → not (isLibrary b && seen) ≡ true
-    → walk (suc f) seen (b ++ r) ≡ andThen (walk f (isLibrary b || seen) r) (λ bs. got (b ∷ bs))
+step : (f p : ℕ) (seen : Bool) (b r : List ℕ) → wellFormed b ≡ true → not (isLibrary b && seen) ≡ true
+    → walk (suc f) p seen (b ++ r) ≡ andThen (walk f (p + length b) (isLibrary b || seen) r) (λ bs. got (b ∷ bs))
 unfolding walk
-step f seen b r w o =
+step f p seen b r w o =
     let k = well-facts b w in
     let g : getD (b ++ r) 0 0 ≡ length b = List·getD-append b r 0 0 (omega (arith, k .long)) ∙ k .says in
     rw (g, ne-eqb (length b) 0 (omega (arith, k .long)), ne-eqb (length b) 1 (omega (arith, k .long)), take-at b r (length b) refl, drop-at b r (length b) refl)
-    (then-ok _ _ tt (need-ok 5 (wellFormed b && not (isLibrary b && seen)) (and-i w o)))
+    (then-ok _ _ tt (no-damage p seen b w o))
 
-walk-zeros : (f m : ℕ) (seen : Bool) → walk f seen (replicate m 0) ≡ got []
+walk-zeros : (f p m : ℕ) (seen : Bool) → walk f p seen (replicate m 0) ≡ got []
 unfolding walk
-walk-zeros zero m seen = refl
-walk-zeros (suc f) zero seen = refl
-walk-zeros (suc f) (suc m) seen = refl
+walk-zeros zero p m seen = refl
+walk-zeros (suc f) p zero seen = refl
+walk-zeros (suc f) p (suc m) seen = refl
 
 -- carried blocks, and 00 to the end
-walk-carried : (f m : ℕ) (seen : Bool) (bs : List (List ℕ)) → all carriable bs ≡ true → length (joined bs ++ replicate m 0) ≤ f
-    → walk f seen (joined bs ++ replicate m 0) ≡ got bs
+walk-carried : (f p m : ℕ) (seen : Bool) (bs : List (List ℕ)) → all carriable bs ≡ true → length (joined bs ++ replicate m 0) ≤ f
+    → walk f p seen (joined bs ++ replicate m 0) ≡ got bs
 unfolding all joined
-walk-carried f m seen [] h l = walk-zeros f m seen
-walk-carried zero m seen (b ∷ bs) h l =
+walk-carried f p m seen [] h l = walk-zeros f p m seen
+walk-carried zero p m seen (b ∷ bs) h l =
     let k = well-facts b (carried-facts b (and-l (carriable b) (all carriable bs) h) .0) in
     absurd (omega (arith, length-append (b ++ joined bs) (replicate m 0), length-append b (joined bs), k .long))
-walk-carried (suc f) m seen (b ∷ bs) h l =
+walk-carried (suc f) p m seen (b ∷ bs) h l =
     let c = carried-facts b (and-l (carriable b) (all carriable bs) h) in
     let r : List ℕ = joined bs ++ replicate m 0 in
     let o : not (isLibrary b && seen) ≡ true = rw (c .1) in
     let k : length r ≤ f = omega (arith, length-append b r, ap length (append-assoc b (joined bs) (replicate m 0)), well-facts b (c .0) .long) in
     rw (append-assoc b (joined bs) (replicate m 0))
-    (step f seen b r (c .0) o
-    ∙ rw (c .1) (then-ok (walk f seen r) (λ cs. got (b ∷ cs)) bs (walk-carried f m seen bs (and-r (carriable b) (all carriable bs) h) k)))
+    (step f p seen b r (c .0) o
+    ∙ rw (c .1) (then-ok (walk f (p + length b) seen r) (λ cs. got (b ∷ cs)) bs (walk-carried f (p + length b) m seen bs (and-r (carriable b) (all carriable bs) h) k)))
 
 -- ---- block 1
 
@@ -190,26 +234,26 @@ no-library (b ∷ cs) h =
     (rw (c .1) (r .0), rw (c .1) (ap (λ (x : List (List ℕ)). b ∷ x) (r .1)))
 
 -- block 1 and the carried blocks, walked
-pub record Laid (one : List ℕ) (cs : List (List ℕ)) (m : ℕ) : Type 0 where
+pub record Laid (p : ℕ) (one : List ℕ) (cs : List (List ℕ)) (m : ℕ) : Type 0 where
   pub bs : List (List ℕ)
-  pub walks : chain (one ++ (joined cs ++ replicate m 0)) ≡ got bs
+  pub walks : chain p (one ++ (joined cs ++ replicate m 0)) ≡ got bs
   pub library : libraryBlock bs ≡ one
   pub others : otherBlocks bs ≡ cs
 
-pub chain-laid : (f : Library) (cs : List (List ℕ)) (m : ℕ) → all carriable cs ≡ true → Laid (blockOne f) cs m
+pub chain-laid : (p : ℕ) (f : Library) (cs : List (List ℕ)) (m : ℕ) → all carriable cs ≡ true → Laid p (blockOne f) cs m
 unfolding blockOne chain libraryBlock otherBlocks sealed le16 word
-chain-laid f cs m h = go (libraryBytes f)
+chain-laid p f cs m h = go (libraryBytes f)
   where
-    go : (p : List ℕ) → Laid (if isEmpty p then [] else sealed 1 p) cs m
-    go [] = let r = no-library cs h in record { bs = cs; walks = walk-carried _ m false cs h (le-refl _); library = r .0; others = r .1 }
-    go (x ∷ p) =
-        let b : List ℕ = sealed 1 (x ∷ p) in
+    go : (q : List ℕ) → Laid p (if isEmpty q then [] else sealed 1 q) cs m
+    go [] = let r = no-library cs h in record { bs = cs; walks = walk-carried _ p m false cs h (le-refl _); library = r .0; others = r .1 }
+    go (x ∷ q) =
+        let b : List ℕ = sealed 1 (x ∷ q) in
         let r : List ℕ = joined cs ++ replicate m 0 in
         let n = no-library cs h in
         record {
           bs = b ∷ cs;
-          walks = step (length (drop 1 b ++ r)) false b r (sealed-well 1 (x ∷ p) (omega arith) (omega arith)) refl
-              ∙ then-ok (walk (length (drop 1 b ++ r)) true r) (λ bs. got (b ∷ bs)) cs (walk-carried (length (drop 1 b ++ r)) m true cs h (omega (arith, length-append (drop 1 b) r)));
+          walks = step (length (drop 1 b ++ r)) p false b r (sealed-well 1 (x ∷ q) (omega arith) (omega arith)) refl
+              ∙ then-ok (walk (length (drop 1 b ++ r)) (p + length b) true r) (λ bs. got (b ∷ bs)) cs (walk-carried (length (drop 1 b ++ r)) (p + length b) m true cs h (omega (arith, length-append (drop 1 b) r)));
           library = refl;
           others = n .1;
         }

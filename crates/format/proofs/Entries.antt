@@ -11,7 +11,7 @@ use lib.ListN.{length}
 use borrow.Author.Tests.{eqb-true, eq-eqb, ne-eqb, ltb-true, lt-ltb}
 use Rattle.format.specs.Bytes.{if_then_else_, isEmpty, all, upTo, past}
 use Rattle.format.specs.Fields.{isilOf, isil, alternative}
-use Rattle.format.specs.Chain.{wellFormed, carriable}
+use Rattle.format.specs.Chain.{named, summed, wellFormed, carriable}
 use Rattle.format.specs.Elements.{Content, numbers, required, setInfo, shape, form, value, valuesAt, clash, sound}
 use Rattle.format.specs.Sheet.{Entry, risingFrom, rising, find, carriedIn, contentOf, formed, present, goodValues, entriesAt, carriedEntries, entries}
 use Rattle.format.proofs.Tests.{never, and-l, and-r, and-i, not-t, or-inv, or-l, or-r, all-mono}
@@ -44,7 +44,7 @@ if-no true b e = refl
 if-no false b e = e
 
 form-full : (n : ℕ) (s : List ℕ) → form n s ≡ true → isEmpty s ≡ false
-unfolding form shape isil isilOf upTo past all setInfo alternative carriable wellFormed
+unfolding form shape isil isilOf upTo past all setInfo alternative carriable wellFormed named summed
 form-full n [] e =
     let no : shape n [] ≡ false =
     if-no (eqb n 1) _ (if-no (eqb n 3) _ (if-no (eqb n 4) _ (if-no (eqb n 5) _ (if-no (eqb n 19) _ (if-no (eqb n 22) _ (if-no (eqb n 23) _ (if-no (eqb n 255) _ refl))))))) in

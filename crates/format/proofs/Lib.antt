@@ -8,6 +8,9 @@ pub mod Crc
 pub mod Paging
 pub mod Fields
 pub mod Blocks
+pub mod Counted
+pub mod Chains
+pub mod Damages
 pub mod Sheets
 pub mod Slots
 pub mod Entries

@@ -1,23 +1,23 @@
 -- Two tables of worked examples, each under a single statement that is computed: the pairs that document 01 marks P, and the whole case
 -- with the published examples B.1 and B.2 of the standard, a tag with both markers, a full one and one with a plain block, each read and
--- written; edits, loose tags, alphabets, values at their bounds, wrong sheets, lock maps, and what a C host gets.
+-- written; edits, loose tags, damage, alphabets, values at their bounds, wrong sheets, lock maps, and what a C host gets.
 use Prim.Native.Nat.{ℕ, _+_, _-_, _/_}
 use mathlib.Core.Bool.{Bool, false, not, _&&_}
 use mathlib.Core.List.{List, [], _∷_, _++_}
 use lib.ListN.{length, replicate, take}
 use lib.Dec.{T, eqb}
-use Rattle.format.specs.Answers.{Answer, plain, got, refused, need, inOrder, afterwards, andThen, orElse, passed}
+use Rattle.format.specs.Answers.{Answer, plain, placed, got, refused, need, needAt, inOrder, afterwards, andThen, orElse, passed}
 use Rattle.format.specs.Bytes.{all, same, le16, word, padWith, trim, strip, upTo, past, xorAll, joined}
 use Rattle.format.specs.Pages.{pageSize, goodSize, lockMap, differs, lockedDiffers, count, changed, lockedChanged}
 use Rattle.format.specs.Crc.{crcBit, crcBits, crcByte, crcFrom, crc, covered}
 use Rattle.format.specs.Fields.{textByte, text, capital, unitByte, isilOf, isil, alternative, isOwner, goodItem, prefixIn, ownerSaid, goodOwner, itemField, packed, basicOwner, ownerField}
-use Rattle.format.specs.Chain.{wellFormed, carriable, walk, chain, libraryBlock, otherBlocks, payload, lastField, libraryIn, goodLibrary, libraryBytes, sealed, blockOne}
+use Rattle.format.specs.Chain.{named, summed, wellFormed, carriable, damageSteps, walk, chain, libraryBlock, otherBlocks, payload, lastField, libraryIn, goodLibrary, libraryBytes, sealed, blockOne}
 use Rattle.format.specs.Elements.{numbers, setInfo, shape, form, value, placeIn, place, known, put, clash}
 use Rattle.format.specs.Sheet.{heads, bodies, sheetOf, offsetsFit, risingFrom, rising, cut, entriesIn, rightSheet, find, carriedIn, contentOf, goodValues, entriesAt, carriedEntries, entries}
 use Rattle.format.specs.Layout.{library, front, basic, laidOut, layout, hasLayout}
 use Rattle.format.specs.Reading.{goodFields, agree, ownerOn, contentIn, tagSteps}
 use Rattle.format.specs.Calls.{readSteps, reading, layingSteps, writeSteps, writing, ownLayout, editSteps, Edited, editing}
-use Rattle.format.specs.Numbers.{numberOf, resultOf}
+use Rattle.format.specs.Numbers.{numberOf, resultOf, placeOf}
 
 -- ---- ways to say what came out
 
@@ -28,6 +28,7 @@ gives (refused x) m = false
 abbrev refuses : Answer ℕ → ℕ → Bool
 refuses (got n) k = false
 refuses (refused (plain n)) k = eqb n k
+refuses (refused (placed n p)) k = false
 
 abbrev pub zeros : ℕ → List ℕ
 zeros n = replicate n 0
@@ -68,7 +69,7 @@ pairs =
     []
 
 pub pairs-hold : T (all (λ b. b) pairs)
-unfolding pairs digits setSheet isilUs need inOrder afterwards andThen orElse passed all same le16 word padWith trim strip upTo past xorAll joined goodSize lockMap differs lockedDiffers count changed lockedChanged crcBit crcBits crcByte crcFrom crc covered textByte text capital unitByte isilOf isil alternative isOwner goodItem prefixIn ownerSaid goodOwner itemField packed basicOwner ownerField wellFormed carriable walk chain libraryBlock otherBlocks payload lastField libraryIn goodLibrary libraryBytes sealed blockOne numbers setInfo shape form value placeIn place known put clash heads bodies sheetOf offsetsFit risingFrom rising cut entriesIn rightSheet find carriedIn contentOf goodValues entriesAt carriedEntries entries library front basic laidOut layout hasLayout goodFields agree ownerOn contentIn tagSteps readSteps reading layingSteps writeSteps writing
+unfolding pairs digits setSheet isilUs need needAt inOrder afterwards andThen orElse passed all same le16 word padWith trim strip upTo past xorAll joined goodSize lockMap differs lockedDiffers count changed lockedChanged crcBit crcBits crcByte crcFrom crc covered textByte text capital unitByte isilOf isil alternative isOwner goodItem prefixIn ownerSaid goodOwner itemField packed basicOwner ownerField named summed wellFormed carriable damageSteps walk chain libraryBlock otherBlocks payload lastField libraryIn goodLibrary libraryBytes sealed blockOne numbers setInfo shape form value placeIn place known put clash heads bodies sheetOf offsetsFit risingFrom rising cut entriesIn rightSheet find carriedIn contentOf goodValues entriesAt carriedEntries entries library front basic laidOut layout hasLayout goodFields agree ownerOn contentIn tagSteps readSteps reading layingSteps writeSteps writing
 pairs-hold = tt
 
 -- ---- the whole case, and the standard's examples
@@ -148,15 +149,12 @@ plainTag = withBlocks (3 ∷ 101 ∷ 0 ∷ 0 ∷ 0 ∷ 0 ∷ [])
 plainSheet : List ℕ
 plainSheet = 3 ∷ 0 ∷ 4 ∷ 14 ∷ 0 ∷ 4 ∷ 5 ∷ 18 ∷ 0 ∷ 1 ∷ 255 ∷ 19 ∷ 0 ∷ 3 ∷ 2 ∷ 0 ∷ 1 ∷ 0 ∷ 0x70 ∷ 3 ∷ 101 ∷ 0 ∷ []
 
--- media 1 alone, in a block 1 with four 00 at its end; and two such blocks without them
+-- media 1 alone, in a block 1 with four 00 at its end
 endingZeros : List ℕ
 endingZeros = withBlocks (9 ∷ 1 ∷ 0 ∷ 9 ∷ 1 ∷ 0 ∷ 0 ∷ 0 ∷ 0 ∷ 0 ∷ [])
 
 mediaSheet : List ℕ
 mediaSheet = 3 ∷ 0 ∷ 4 ∷ 14 ∷ 0 ∷ 4 ∷ 5 ∷ 18 ∷ 0 ∷ 1 ∷ 19 ∷ 19 ∷ 0 ∷ 1 ∷ 2 ∷ 0 ∷ 1 ∷ 0 ∷ 0x70 ∷ 1 ∷ []
-
-twice : List ℕ
-twice = withBlocks (5 ∷ 1 ∷ 0 ∷ 5 ∷ 1 ∷ 5 ∷ 1 ∷ 0 ∷ 5 ∷ 1 ∷ [])
 
 -- the owner of B.2 changed and changed back, the old element handed out each time
 changedBack : Bool
@@ -177,6 +175,7 @@ moved = same (editing pageSize tag2 (zeros 19) 19 [] (zeros 255) .tag) (take 34 
 editRefused : ℕ → Answer Edited → Bool
 editRefused n (got x) = false
 editRefused n (refused (plain k)) = eqb k n
+editRefused n (refused (placed k p)) = false
 
 -- 256 + 1 is no element's number, and is not cut to a byte: the edit is refused 9
 wideNumber : Bool
@@ -188,11 +187,26 @@ isLoose s t =
     same (reading pageSize t (zeros (length s)) .sheet) s
     && editRefused 13 (editing pageSize t (zeros (length t / pageSize)) 3 isilUs (zeros 255) .answer)
 
--- a byte behind the end mark, a filler, 00 at the end of block 1; and a second block 1 is damage
+-- a byte behind the end mark, a filler, 00 at the end of block 1
 looseTags : Bool
 looseTags =
     isLoose sheet2 (take 75 tag2 ++ (1 ∷ [])) && isLoose sheet2 (take 73 tag2 ++ (1 ∷ 0 ∷ 0 ∷ [])) && isLoose mediaSheet endingZeros
-    && refuses (reading pageSize twice [] .answer) 5
+
+-- the chain s is damaged: reading and editing give the number k and the place p
+damagedAt : ℕ → ℕ → List ℕ → Bool
+damagedAt k p s =
+    let t : List ℕ = withBlocks s in
+    let read = reading pageSize t [] .answer in
+    let edited = editing pageSize t (zeros (length t / pageSize)) 1 [] [] .answer in
+    eqb (numberOf read) k && eqb (placeOf read 0) p && eqb (numberOf edited) k && eqb (placeOf edited 0) p
+
+-- each cause; two at one block, where the lower number is given; and a 19 before a 15 at a later block
+damages : Bool
+damages =
+    damagedAt 15 34 (2 ∷ 101 ∷ []) && damagedAt 15 35 (1 ∷ 2 ∷ []) && damagedAt 16 34 (0xFF ∷ 0 ∷ []) && damagedAt 16 35 (1 ∷ 3 ∷ [])
+    && damagedAt 17 34 (3 ∷ 0 ∷ 0 ∷ 1 ∷ 1 ∷ 1 ∷ []) && damagedAt 17 34 (4 ∷ 0 ∷ 0 ∷ 0 ∷ 0 ∷ 0 ∷ []) && damagedAt 17 37 (3 ∷ 101 ∷ 0 ∷ 3 ∷ 100 ∷ 0 ∷ [])
+    && damagedAt 18 34 (4 ∷ 2 ∷ 0 ∷ 0 ∷ 0 ∷ 0 ∷ []) && damagedAt 17 38 (4 ∷ 1 ∷ 0 ∷ 5 ∷ 3 ∷ 1 ∷ 0 ∷ 0 ∷ 0 ∷ 0 ∷ [])
+    && damagedAt 18 38 (4 ∷ 1 ∷ 0 ∷ 5 ∷ 4 ∷ 1 ∷ 0 ∷ 0 ∷ 0 ∷ 0 ∷ []) && damagedAt 19 38 (4 ∷ 1 ∷ 0 ∷ 5 ∷ 4 ∷ 1 ∷ 0 ∷ 5 ∷ 2 ∷ 0 ∷ [])
 
 -- 95 text bytes, 26 capitals, 65 unit characters
 alphabets : Bool
@@ -239,6 +253,7 @@ resultsInC =
     let edited = editing pageSize tag2 (zeros 19) 3 isilUs (zeros 255) .answer in
     let wide = editing pageSize tag2 (zeros 19) 257 isilUs (zeros 255) .answer in
     eqb (numberOf read) 0 && eqb (resultOf (λ n. n) read 77) 21 && eqb (numberOf short) 2 && eqb (resultOf (λ n. n) short 77) 77
+    && eqb (placeOf read 77) 77 && eqb (placeOf short 77) 77
     && eqb (numberOf edited) 0 && eqb (resultOf (λ e. e .pages) edited 77) 4 && eqb (resultOf (λ e. e .old) edited 77) 9
     && eqb (numberOf wide) 9 && eqb (resultOf (λ e. e .pages) wide 77) 77 && eqb (resultOf (λ e. e .old) wide 78) 78
 
@@ -246,8 +261,8 @@ pub examples : List Bool
 examples =
     isSheetOf wholeSheet wholeTag ∷ isSheetOf sheet1 tag1 ∷ isSheetOf sheet2 tag2 ∷ isSheetOf markedSheet markedTag ∷ isSheetOf fullSheet fullTag ∷
     isSheetOf plainSheet plainTag ∷ changedBack ∷ moved ∷ wideNumber ∷ looseTags ∷
-    alphabets ∷ oneCapital ∷ bounds ∷ wrongSheets ∷ lockMaps ∷ resultsInC ∷ []
+    damages ∷ alphabets ∷ oneCapital ∷ bounds ∷ wrongSheets ∷ lockMaps ∷ resultsInC ∷ []
 
 pub examples-hold : T (all (λ b. b) examples)
-unfolding examples isilUs wholeSheet wholeFront wholeTag isilDk fieldDk item1 tag1 sheet1 item2 acquisition tag2 sheet2 longItem isilOclc markedTag markedSheet withBlocks fullTag fullSheet plainTag plainSheet endingZeros mediaSheet twice changedBack moved editRefused wideNumber isLoose looseTags alphabets isilWith oneCapital bounds wrongSheets lockMaps resultsInC need inOrder afterwards andThen orElse passed all same le16 word padWith trim strip upTo past xorAll joined goodSize lockMap differs lockedDiffers count changed lockedChanged crcBit crcBits crcByte crcFrom crc covered textByte text capital unitByte isilOf isil alternative isOwner goodItem prefixIn ownerSaid goodOwner itemField packed basicOwner ownerField wellFormed carriable walk chain libraryBlock otherBlocks payload lastField libraryIn goodLibrary libraryBytes sealed blockOne numbers setInfo shape form value placeIn place known put clash heads bodies sheetOf offsetsFit risingFrom rising cut entriesIn rightSheet find carriedIn contentOf goodValues entriesAt carriedEntries entries library front basic laidOut layout hasLayout goodFields agree ownerOn contentIn tagSteps readSteps reading layingSteps writeSteps writing ownLayout editSteps editing
+unfolding examples isilUs wholeSheet wholeFront wholeTag isilDk fieldDk item1 tag1 sheet1 item2 acquisition tag2 sheet2 longItem isilOclc markedTag markedSheet withBlocks fullTag fullSheet plainTag plainSheet endingZeros mediaSheet changedBack moved editRefused wideNumber isLoose looseTags damagedAt damages alphabets isilWith oneCapital bounds wrongSheets lockMaps resultsInC need needAt inOrder afterwards andThen orElse passed all same le16 word padWith trim strip upTo past xorAll joined goodSize lockMap differs lockedDiffers count changed lockedChanged crcBit crcBits crcByte crcFrom crc covered textByte text capital unitByte isilOf isil alternative isOwner goodItem prefixIn ownerSaid goodOwner itemField packed basicOwner ownerField named summed wellFormed carriable damageSteps walk chain libraryBlock otherBlocks payload lastField libraryIn goodLibrary libraryBytes sealed blockOne numbers setInfo shape form value placeIn place known put clash heads bodies sheetOf offsetsFit risingFrom rising cut entriesIn rightSheet find carriedIn contentOf goodValues entriesAt carriedEntries entries library front basic laidOut layout hasLayout goodFields agree ownerOn contentIn tagSteps readSteps reading layingSteps writeSteps writing ownLayout editSteps editing
 examples-hold = tt

@@ -8,23 +8,25 @@ use mathlib.Core.Bool.{true, false, _&&_}
 use mathlib.Core.List.{List}
 use lib.ListN.{length}
 use borrow.Author.Tests.{le-leb}
-use Rattle.format.specs.Answers.{Answer, Refusal, plain, got, refused, Step, inOrder}
+use Rattle.format.specs.Answers.{Answer, Refusal, plain, placed, got, refused, Step, inOrder}
 use Rattle.format.specs.Bytes.{bytes, filled, joined}
 use Rattle.format.specs.Pages.{pageSize, goodSize, lockMap, changed, openPages, Kept}
 use Rattle.format.specs.Elements.{Content, partsOf, ordinalOf, known, el, put, value, sound}
 use Rattle.format.specs.Sheet.{sheetOf, fitting, entriesIn, rightSheet, find, contentOf, goodValues, entries}
 use Rattle.format.specs.Layout.{ownerWidth, laidOut, image, fits}
-use Rattle.format.specs.Reading.{blocksIn, contentIn, Readable}
+use Rattle.format.specs.Reading.{walked, blocksIn, contentIn, Readable}
+use Rattle.format.specs.Damage.{Damaged}
 use Rattle.format.specs.Calls.{sheetIn, readSteps, reading, sheetContent, writeSteps, writing, ownLayout, editSteps, Edited, editing}
-use Rattle.format.specs.Numbers.{editGiven, readNumbers, writeNumbers, editNumbers, Each, oneOf, numberOf, resultOf, Reads, Writes, Edits, ReadsC, WritesC, EditsC}
+use Rattle.format.specs.Numbers.{oneOf, damageNumbers, Gives, gives, oneGives, readGives, writeGives, editGives, Each, numberOf, resultOf, Reads, Writes, Edits, ReadsC, WritesC, EditsC}
 use Rattle.format.specs.History.{Own, State, begin, run}
-use Rattle.format.specs.Demands.{Exact, ReadsExactly, WritesExactly, EditsExactly, ReadsUnchanged, WritesUnchanged, EditsUnchanged, ReadsBack, LaysDown, CountsWritten, CountsEdited, PutsElement, EveryHistory, SameIsNothing}
+use Rattle.format.specs.Demands.{Exact, ReadsExactly, WritesExactly, EditsExactly, ReadsDamage, EditsDamage, ReadsUnchanged, WritesUnchanged, EditsUnchanged, ReadsBack, LaysDown, CountsWritten, CountsEdited, PutsElement, EveryHistory, SameIsNothing}
 use Rattle.format.specs.declared.NumberAnswer.{NumberAnswer}
+use Rattle.format.specs.declared.ReadAnswer.{ReadAnswer}
 use Rattle.format.specs.declared.EditAnswer.{EditAnswer}
-use Rattle.format.specs.declared.EditAnswer.the-variants as edit
-use Rattle.format.proofs.Tests.{never, and-r, and-no, and-left}
-use Rattle.format.proofs.Answers.{got-inj, refuses, refused-first, works, worked, next-ok, next-no, afterwards-got, afterwards-refused}
-use Rattle.format.proofs.Refusals.{read-order, write-order, edit-order, listed, zero-done}
+use Rattle.format.proofs.Tests.{and-l, and-r, and-i, and-no, and-left}
+use Rattle.format.proofs.Answers.{refuses, refused-first, works, worked, next-ok, next-no, afterwards-got, afterwards-refused}
+use Rattle.format.proofs.Damages.{damage-refused, placed-damage, damage-number, damage-inside, spoilt-on}
+use Rattle.format.proofs.Refusals.{read-order, write-order, edit-order, listed, zero-done, read-spoilt, edit-spoilt, place-told, reads-apart, edits-apart}
 use Rattle.format.proofs.Readable.{readable-on}
 use Rattle.format.proofs.Paging.{changed-self}
 use Rattle.format.proofs.Slots.{put-same, wide-unknown}
@@ -38,45 +40,42 @@ use Rattle.format.proofs.Laying.{laid-open, layout-own}
 use Rattle.format.proofs.Writes.{write-passed, written-own, written-length, written-sheet, written-passes, own-written}
 use Rattle.format.proofs.Edits.{edit-passed, own-elements, edit-passes, passed-edit, same-length, edited-own, same-accepted}
 use Rattle.format.proofs.Histories.{Good, history, begun}
-use Rattle.format.proofs.Given.{answer-same}
+use Rattle.format.proofs.Given.{answer-same, read-same, edit-same}
 
 -- ==== Demand 1: one answer and one content for each buffer, on every input; a refusal changes nothing and gives only its number
 
 -- two outcomes that fit a call's contract are equal, answer and buffers
-pub reads-one : (t buffer : List ℕ) (r r′ : NumberAnswer) (s s′ : List ℕ) → Reads t buffer r s → Reads t buffer r′ s′ → (r ≡ r′) × (s ≡ s′)
-reads-one t buffer r r′ s s′ a b = (answer-same r r′ (a .answered ∙ sym (b .answered)), a .left ∙ sym (b .left))
+pub reads-one : (t buffer : List ℕ) (r r′ : ReadAnswer) (s s′ : List ℕ) → Reads t buffer r s → Reads t buffer r′ s′ → (r ≡ r′) × (s ≡ s′)
+reads-one t buffer r r′ s s′ a b = (read-same r r′ (a .answered ∙ sym (b .answered)), a .left ∙ sym (b .left))
 
 pub writes-one : (s t locks : List ℕ) (r r′ : NumberAnswer) (tag tag′ : List ℕ) → Writes s t locks r tag → Writes s t locks r′ tag′ → (r ≡ r′) × (tag ≡ tag′)
 writes-one s t locks r r′ tag tag′ a b = (answer-same r r′ (a .answered ∙ sym (b .answered)), a .left ∙ sym (b .left))
-
-edit-same : (r r′ : EditAnswer) → editGiven r ≡ editGiven r′ → r ≡ r′
-edit-same (edit.Done p o) (edit.Done q m) e = let k = got-inj e in ap₂ edit.Done (ap (λ (x : Edited). x .pages) k) (ap (λ (x : Edited). x .old) k)
-edit-same (edit.Done p o) (edit.Refused m) e = never (cc)
-edit-same (edit.Refused n) (edit.Done q m) e = never (cc)
-edit-same (edit.Refused n) (edit.Refused m) e = let k : n ≡ m = cc in ap edit.Refused k
 
 pub edits-one : (t locks : List ℕ) (n : ℕ) (s buffer : List ℕ) (r r′ : EditAnswer) (tag tag′ old old′ : List ℕ)
     → Edits t locks n s buffer r tag old → Edits t locks n s buffer r′ tag′ old′ → (r ≡ r′) × (tag ≡ tag′) × (old ≡ old′)
 edits-one t locks n s buffer r r′ tag tag′ old old′ a b = (edit-same r r′ (a .answered ∙ sym (b .answered)), a .left ∙ sym (b .left), a .handed ∙ sym (b .handed))
 
 -- so too for the exported calls
-pub c-reads-one : (t buffer : List ℕ) (used r r′ : ℕ) (s s′ : List ℕ) (u u′ : ℕ) → ReadsC t buffer used r s u → ReadsC t buffer used r′ s′ u′ → (r ≡ r′) × (s ≡ s′) × (u ≡ u′)
-c-reads-one t buffer used r r′ s s′ u u′ a b = (a .answered ∙ sym (b .answered), a .left ∙ sym (b .left), a .result ∙ sym (b .result))
+pub c-reads-one : (t buffer : List ℕ) (used place r r′ : ℕ) (s s′ : List ℕ) (u u′ l l′ : ℕ)
+    → ReadsC t buffer used place r s u l → ReadsC t buffer used place r′ s′ u′ l′ → (r ≡ r′) × (s ≡ s′) × (u ≡ u′) × (l ≡ l′)
+c-reads-one t buffer used place r r′ s s′ u u′ l l′ a b =
+    (a .answered ∙ sym (b .answered), a .left ∙ sym (b .left), a .result ∙ sym (b .result), a .at-place ∙ sym (b .at-place))
 
 pub c-writes-one : (s t locks : List ℕ) (pages r r′ : ℕ) (tag tag′ : List ℕ) (n n′ : ℕ) → WritesC s t locks pages r tag n → WritesC s t locks pages r′ tag′ n′ → (r ≡ r′) × (tag ≡ tag′) × (n ≡ n′)
 c-writes-one s t locks pages r r′ tag tag′ n n′ a b = (a .answered ∙ sym (b .answered), a .left ∙ sym (b .left), a .result ∙ sym (b .result))
 
-pub c-edits-one : (t locks : List ℕ) (n : ℕ) (s buffer : List ℕ) (pages used r r′ : ℕ) (tag tag′ old old′ : List ℕ) (k k′ u u′ : ℕ)
-    → EditsC t locks n s buffer pages used r tag old k u → EditsC t locks n s buffer pages used r′ tag′ old′ k′ u′ → (r ≡ r′) × (tag ≡ tag′) × (old ≡ old′) × (k ≡ k′) × (u ≡ u′)
-c-edits-one t locks n s buffer pages used r r′ tag tag′ old old′ k k′ u u′ a b =
-    (a .answered ∙ sym (b .answered), a .left ∙ sym (b .left), a .handed ∙ sym (b .handed), a .result ∙ sym (b .result), a .old-length ∙ sym (b .old-length))
+pub c-edits-one : (t locks : List ℕ) (n : ℕ) (s buffer : List ℕ) (pages used place r r′ : ℕ) (tag tag′ old old′ : List ℕ) (k k′ u u′ l l′ : ℕ)
+    → EditsC t locks n s buffer pages used place r tag old k u l → EditsC t locks n s buffer pages used place r′ tag′ old′ k′ u′ l′
+    → (r ≡ r′) × (tag ≡ tag′) × (old ≡ old′) × (k ≡ k′) × (u ≡ u′) × (l ≡ l′)
+c-edits-one t locks n s buffer pages used place r r′ tag tag′ old old′ k k′ u u′ l l′ a b =
+    (a .answered ∙ sym (b .answered), a .left ∙ sym (b .left), a .handed ∙ sym (b .handed), a .result ∙ sym (b .result), a .old-length ∙ sym (b .old-length), a .at-place ∙ sym (b .at-place))
 
 -- their number is 0 only when the work is done
-pub zero-is-done : {A : Type 0} (ns : List ℕ) (ss : List Step) (a : A) → Each ns ss → oneOf ns 0 ≡ false → numberOf (inOrder ss a) ≡ 0 → inOrder ss a ≡ got a
+pub zero-is-done : {A : Type 0} (gs : List Gives) (ss : List Step) (a : A) → Each gs ss → oneGives gs (plain 0) ≡ false → numberOf (inOrder ss a) ≡ 0 → inOrder ss a ≡ got a
 zero-is-done = zero-done
 
-pub no-zero : (oneOf readNumbers 0 ≡ false) × (oneOf writeNumbers 0 ≡ false) × (oneOf editNumbers 0 ≡ false)
-unfolding oneOf readNumbers writeNumbers editNumbers
+pub no-zero : (oneGives readGives (plain 0) ≡ false) × (oneGives writeGives (plain 0) ≡ false) × (oneGives editGives (plain 0) ≡ false)
+unfolding oneGives gives readGives writeGives editGives
 no-zero = (refl, refl, refl)
 
 -- a list of steps refuses exactly where one of them refuses, as the first that does, and passes exactly where all do
@@ -101,28 +100,67 @@ pub editing-exactly : EditsExactly editing
 unfolding editing
 editing-exactly p t locks n s buffer = exactly (editSteps p (length buffer) t locks n s) _
 
--- the steps refuse with the call's numbers, in the paper's order (so the number given is one of the list)
-pub reading-order : (p room : ℕ) (t : List ℕ) → Each readNumbers (readSteps p room t)
+-- the steps refuse with what the call's list says, in the paper's order; so a refusal is one of the list, and has a place only with 15 to 19
+pub reading-order : (p room : ℕ) (t : List ℕ) → Each readGives (readSteps p room t)
 reading-order = read-order
 
-pub writing-order : (p : ℕ) (s t locks : List ℕ) → Each writeNumbers (writeSteps p s t locks)
+pub writing-order : (p : ℕ) (s t locks : List ℕ) → Each writeGives (writeSteps p s t locks)
 writing-order = write-order
 
-pub editing-order : (p room : ℕ) (t locks : List ℕ) (n : ℕ) (s : List ℕ) → Each editNumbers (editSteps p room t locks n s)
+pub editing-order : (p room : ℕ) (t locks : List ℕ) (n : ℕ) (s : List ℕ) → Each editGives (editSteps p room t locks n s)
 editing-order = edit-order
 
-pub reading-listed : (p : ℕ) (t buffer : List ℕ) (x : Refusal) → reading p t buffer .answer ≡ refused x → (k : ℕ) × (x ≡ plain k) × (oneOf readNumbers k ≡ true)
+pub reading-listed : (p : ℕ) (t buffer : List ℕ) (x : Refusal) → reading p t buffer .answer ≡ refused x → oneGives readGives x ≡ true
 unfolding reading
-reading-listed p t buffer x e = listed readNumbers (readSteps p (length buffer) t) _ x (read-order p (length buffer) t) e
+reading-listed p t buffer x e = listed readGives (readSteps p (length buffer) t) _ x (read-order p (length buffer) t) e
 
-pub writing-listed : (p : ℕ) (s t locks : List ℕ) (x : Refusal) → writing p s t locks .answer ≡ refused x → (k : ℕ) × (x ≡ plain k) × (oneOf writeNumbers k ≡ true)
+pub writing-listed : (p : ℕ) (s t locks : List ℕ) (x : Refusal) → writing p s t locks .answer ≡ refused x → oneGives writeGives x ≡ true
 unfolding writing
-writing-listed p s t locks x e = listed writeNumbers (writeSteps p s t locks) _ x (write-order p s t locks) e
+writing-listed p s t locks x e = listed writeGives (writeSteps p s t locks) _ x (write-order p s t locks) e
 
-pub editing-listed : (p : ℕ) (t locks : List ℕ) (n : ℕ) (s buffer : List ℕ) (x : Refusal) → editing p t locks n s buffer .answer ≡ refused x
-    → (k : ℕ) × (x ≡ plain k) × (oneOf editNumbers k ≡ true)
+pub editing-listed : (p : ℕ) (t locks : List ℕ) (n : ℕ) (s buffer : List ℕ) (x : Refusal) → editing p t locks n s buffer .answer ≡ refused x → oneGives editGives x ≡ true
 unfolding editing
-editing-listed p t locks n s buffer x e = listed editNumbers (editSteps p (length buffer) t locks n s) _ x (edit-order p (length buffer) t locks n s) e
+editing-listed p t locks n s buffer x e = listed editGives (editSteps p (length buffer) t locks n s) _ x (edit-order p (length buffer) t locks n s) e
+
+-- walking the chain is refused exactly where it is damaged, with the number and the place of the first damage;
+pub damage-exactly : (t : List ℕ) (k p : ℕ) → (walked t ≡ refused (placed k p) → Damaged t k p) × (Damaged t k p → walked t ≡ refused (placed k p))
+damage-exactly t k p = (placed-damage t k p, damage-refused t k p)
+
+-- it has a number of 15 to 19, and its place is from byte 34 on, before the tag's end
+pub damage-placed : (t : List ℕ) (k p : ℕ) → Damaged t k p → (oneOf damageNumbers k ≡ true) × (34 ≤ p) × (p < length t)
+damage-placed t k p d = let h = damage-inside t k p d in (damage-number t k p d, h .0, h .1)
+
+-- reading and editing pass it upward, and give no other place
+pub reading-damage : ReadsDamage reading
+unfolding reading readSteps
+reading-damage p t buffer k at = (read-spoilt p (length buffer) t _ k at, λ h. next-ok _ _ _ _ (h .0) ∙ spoilt-on t _ _ k at (h .1))
+
+pub editing-damage : EditsDamage editing
+unfolding editing editSteps
+editing-damage p t locks n s buffer k at = (edit-spoilt p (length buffer) t locks n s _ k at, λ h. next-ok _ _ _ _ (h .0) ∙ spoilt-on t _ _ k at (h .1))
+
+-- so for one tag they give the same
+pub same-damage : (p : ℕ) (t locks : List ℕ) (n : ℕ) (s old sheet : List ℕ) (k at : ℕ) → lockMap p locks (length t) ≡ true
+    → (reading p t sheet .answer ≡ refused (placed k at) → editing p t locks n s old .answer ≡ refused (placed k at))
+    × (editing p t locks n s old .answer ≡ refused (placed k at) → reading p t sheet .answer ≡ refused (placed k at))
+same-damage p t locks n s old sheet k at l = (
+  λ e. let h = reading-damage p t sheet k at .0 e in editing-damage p t locks n s old k at .1 (and-i (h .0) l, h .1),
+  λ e. let h = editing-damage p t locks n s old k at .0 e in reading-damage p t sheet k at .1 (and-l (goodSize p (length t)) (lockMap p locks (length t)) (h .0), h .1),
+)
+
+-- a C host finds the place behind its pointer where the number is 15 to 19, and else what stood there
+pub c-reads-place : (t buffer : List ℕ) (used place r : ℕ) (sheet : List ℕ) (used′ place′ : ℕ) → ReadsC t buffer used place r sheet used′ place′
+    → (oneOf damageNumbers r ≡ true → Damaged t r place′) × (oneOf damageNumbers r ≡ false → place′ ≡ place)
+c-reads-place t buffer used place r sheet used′ place′ c =
+    place-told t readGives (reading pageSize t buffer .answer) r place place′ reads-apart (λ x e. reading-listed pageSize t buffer x e)
+    (λ k at e. reading-damage pageSize t buffer k at .0 e .1 .damage) (c .answered) (c .at-place)
+
+pub c-edits-place : (t locks : List ℕ) (n : ℕ) (s buffer : List ℕ) (pages used place r : ℕ) (tag old : List ℕ) (pages′ used′ place′ : ℕ)
+    → EditsC t locks n s buffer pages used place r tag old pages′ used′ place′
+    → (oneOf damageNumbers r ≡ true → Damaged t r place′) × (oneOf damageNumbers r ≡ false → place′ ≡ place)
+c-edits-place t locks n s buffer pages used place r tag old pages′ used′ place′ c =
+    place-told t editGives (editing pageSize t locks n s buffer .answer) r place place′ edits-apart (λ x e. editing-listed pageSize t locks n s buffer x e)
+    (λ k at e. editing-damage pageSize t locks n s buffer k at .0 e .1 .damage) (c .answered) (c .at-place)
 
 -- at a refusal every buffer is as at entry
 pub reading-unchanged : ReadsUnchanged reading
@@ -248,16 +286,16 @@ editing-counts p t locks n s buffer r e =
 
 -- So are the counts that a C host finds behind its pointers where 0 was returned.
 pub c-writing-counts : (s t locks : List ℕ) (pages r : ℕ) (tag : List ℕ) (pages′ : ℕ) → WritesC s t locks pages r tag pages′ → r ≡ 0 → pages′ ≡ changed pageSize t tag
-unfolding writing writeNumbers oneOf
+unfolding writing writeGives oneGives gives
 c-writing-counts s t locks pages r tag pages′ w e =
-    let d = zero-done writeNumbers (writeSteps pageSize s t locks) _ (write-order pageSize s t locks) refl (sym (w .answered) ∙ e) in
+    let d = zero-done writeGives (writeSteps pageSize s t locks) _ (write-order pageSize s t locks) refl (sym (w .answered) ∙ e) in
     w .result ∙ ap (λ (a : Answer ℕ). resultOf (λ n. n) a pages) d ∙ writing-counts pageSize s t locks _ d ∙ ap (changed pageSize t) (sym (w .left))
 
-pub c-editing-counts : (t locks : List ℕ) (n : ℕ) (s buffer : List ℕ) (pages used r : ℕ) (tag old : List ℕ) (pages′ used′ : ℕ)
-    → EditsC t locks n s buffer pages used r tag old pages′ used′ → r ≡ 0 → pages′ ≡ changed pageSize t tag
-unfolding editing editNumbers oneOf
-c-editing-counts t locks n s buffer pages used r tag old pages′ used′ w e =
-    let d = zero-done editNumbers (editSteps pageSize (length buffer) t locks n s) _ (edit-order pageSize (length buffer) t locks n s) refl (sym (w .answered) ∙ e) in
+pub c-editing-counts : (t locks : List ℕ) (n : ℕ) (s buffer : List ℕ) (pages used place r : ℕ) (tag old : List ℕ) (pages′ used′ place′ : ℕ)
+    → EditsC t locks n s buffer pages used place r tag old pages′ used′ place′ → r ≡ 0 → pages′ ≡ changed pageSize t tag
+unfolding editing editGives oneGives gives
+c-editing-counts t locks n s buffer pages used place r tag old pages′ used′ place′ w e =
+    let d = zero-done editGives (editSteps pageSize (length buffer) t locks n s) _ (edit-order pageSize (length buffer) t locks n s) refl (sym (w .answered) ∙ e) in
     w .result ∙ ap (λ (a : Answer Edited). resultOf (λ x. x .pages) a pages) d ∙ editing-counts pageSize t locks n s buffer _ d ∙ ap (changed pageSize t) (sym (w .left))
 
 -- Start with a tag in the writer's own layout, a lock map that stays the same, and a buffer of 255 bytes or more for the old element

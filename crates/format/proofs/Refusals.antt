@@ -1,91 +1,150 @@
--- Each call refuses with the numbers of its list, in that order.
-use mathlib.Core.Path.{_≡_, refl, sym, ap}
+-- Each call refuses with what its list says, in that order.
+use mathlib.Core.Path.{_≡_, refl, sym, ap, _∙_}
 use mathlib.Core.Logic.{_⊎_, inl, inr}
-use Prim.Native.Nat.{ℕ, zero, suc}
+use Prim.Native.Nat.{ℕ}
 use mathlib.Core.Bool.{Bool, true, false, not, _&&_, _||_}
 use mathlib.Core.List.{List, [], _∷_}
 use lib.Dec.{eqb}
-use lib.ListN.{length, take, drop, getD}
-use borrow.Author.Tests.{eq-eqb}
-use Rattle.format.specs.Answers.{Answer, Refusal, plain, got, refused, Step, need, inOrder, andThen, passed}
-use Rattle.format.specs.Bytes.{if_then_else_}
-use Rattle.format.specs.Chain.{wellFormed, isLibrary, walk, chain}
+use lib.ListN.{length}
+use borrow.Author.Tests.{eq-eqb, eqb-true}
+use Rattle.format.specs.Answers.{Answer, Refusal, plain, placed, got, refused, Step, need, inOrder, passed}
+use Rattle.format.specs.Pages.{goodSize, lockMap}
 use Rattle.format.specs.Reading.{walked, tagSteps}
+use Rattle.format.specs.Damage.{Damaged, Spoilt}
 use Rattle.format.specs.Calls.{readSteps, layingSteps, writeSteps, editSteps}
-use Rattle.format.specs.Numbers.{readNumbers, writeNumbers, editNumbers, Each, none, next, oneOf, numberOf}
-use Rattle.format.proofs.Tests.{never, or-l, or-r}
+use Rattle.format.specs.Numbers.{oneOf, damageNumbers, Gives, alone, damage, gives, oneGives, readGives, writeGives, editGives, Each, none, next, numberOf, placeOf}
+use Rattle.format.proofs.Tests.{never, and-l, and-r, or-l, or-r, or-inv, not-t}
 use Rattle.format.proofs.Answers.{worked, need-refused, passed-refused}
+use Rattle.format.proofs.Damages.{refused-damage, damage-number, place-past, on-spoilt}
 
--- ---- the damage of a chain is 5
+-- ---- in order
 
-then-refused : {A B : Type 0} (m : Answer A) (f : A → Answer B) (x : Refusal) → andThen m f ≡ refused x → (m ≡ refused x) ⊎ ((a : A) × (m ≡ got a) × (f a ≡ refused x))
-unfolding andThen
-then-refused (got a) f x e = inr (a, refl, e)
-then-refused (refused y) f x e = inl (let k : y ≡ x = cc in ap refused k)
+alone-gives : (n : ℕ) → gives (alone n) (plain n) ≡ true
+unfolding gives
+alone-gives n = eq-eqb n n refl
 
-pub walk-refused : (f : ℕ) (seen : Bool) (s : List ℕ) (x : Refusal) → walk f seen s ≡ refused x → x ≡ plain 5
-unfolding walk
-walk-refused zero seen s x e = never (cc)
-walk-refused (suc f) seen s x e = go (eqb (getD s 0 0) 0) (eqb (getD s 0 0) 1) e (walk-refused f)
-  where
-    n : ℕ
-    n = getD s 0 0
+damage-gives : (k p : ℕ) → oneOf damageNumbers k ≡ true → gives damage (placed k p) ≡ true
+unfolding gives
+damage-gives k p e = e
 
-    b : List ℕ
-    b = take n s
+test : {gs : List Gives} {ss : List Step} (n : ℕ) (b : Bool) → Each gs ss → Each (alone n ∷ gs) (need n b ∷ ss)
+test n b r = next (λ x e. ap (gives (alone n)) (need-refused n b x e .1) ∙ alone-gives n) r
 
-    go : (y z : Bool)
-        → (if y then got [] else if z then walk f seen (drop 1 s) else andThen (need 5 (wellFormed b && not (isLibrary b && seen))) λ _. andThen (walk f (isLibrary b || seen) (drop n s)) λ bs. got (b ∷ bs)) ≡ refused x
-        → ((seen : Bool) (s : List ℕ) (x : Refusal) → walk f seen s ≡ refused x → x ≡ plain 5) → x ≡ plain 5
-    go true z e ih = never (cc)
-    go false true e ih = ih seen (drop 1 s) x e
-    go false false e ih = elim (then-refused (need 5 (wellFormed b && not (isLibrary b && seen))) _ x e) [
-      | inl h ↦ need-refused 5 _ x h .1
-      | inr h ↦ elim (then-refused (walk f (isLibrary b || seen) (drop n s)) _ x (h .2)) [
-        | inl k ↦ ih (isLibrary b || seen) (drop n s) x k
-        | inr k ↦ never (cc (k .2))
-      ]
-    ]
+walk-step : {gs : List Gives} {ss : List Step} (t : List ℕ) → Each gs ss → Each (damage ∷ gs) (passed (walked t) ∷ ss)
+walk-step t r =
+    next (λ x e.
+    let d = refused-damage t x (passed-refused (walked t) x e) in
+    ap (gives damage) (d .2) ∙ damage-gives (d .0) (d .1) (damage-number t (d .0) (d .1) (d .3))) r
 
--- ---- the numbers, in order
-
-test : {ns : List ℕ} {ss : List Step} (n : ℕ) (b : Bool) → Each ns ss → Each (n ∷ ns) (need n b ∷ ss)
-test n b r = next (λ x e. need-refused n b x e .1) r
-
-walk-step : {ns : List ℕ} {ss : List Step} (t : List ℕ) → Each ns ss → Each (5 ∷ ns) (passed (walked t) ∷ ss)
-unfolding chain
-walk-step t r = next (λ x e. walk-refused (length (drop 34 t)) false (drop 34 t) x (passed-refused (walked t) x e)) r
-
--- Reading: 1, 3, 4, 5, 6, 7, 14, 2
-pub read-order : (p room : ℕ) (t : List ℕ) → Each readNumbers (readSteps p room t)
-unfolding readNumbers readSteps tagSteps
+-- Reading: 1, 3, 4, 15 to 19, 6, 7, 14, 2
+pub read-order : (p room : ℕ) (t : List ℕ) → Each readGives (readSteps p room t)
+unfolding readGives readSteps tagSteps
 read-order p room t = test 1 _ (test 3 _ (test 4 _ (walk-step t (test 6 _ (test 7 _ (test 14 _ (test 2 _ none)))))))
 
 -- Writing: 1, 8, 9, 10, 11, 12
-pub write-order : (p : ℕ) (s t locks : List ℕ) → Each writeNumbers (writeSteps p s t locks)
-unfolding writeNumbers writeSteps layingSteps
+pub write-order : (p : ℕ) (s t locks : List ℕ) → Each writeGives (writeSteps p s t locks)
+unfolding writeGives writeSteps layingSteps
 write-order p s t locks = test 1 _ (test 8 _ (test 9 _ (test 10 _ (test 11 _ (test 12 _ none)))))
 
--- Editing: 1, 3, 4, 5, 6, 7, 13, 2, 9, 10, 11, 12
-pub edit-order : (p room : ℕ) (t locks : List ℕ) (n : ℕ) (s : List ℕ) → Each editNumbers (editSteps p room t locks n s)
-unfolding editNumbers editSteps tagSteps layingSteps
+-- Editing: 1, 3, 4, 15 to 19, 6, 7, 13, 2, 9, 10, 11, 12
+pub edit-order : (p room : ℕ) (t locks : List ℕ) (n : ℕ) (s : List ℕ) → Each editGives (editSteps p room t locks n s)
+unfolding editGives editSteps tagSteps layingSteps
 edit-order p room t locks n s = test 1 _ (test 3 _ (test 4 _ (walk-step t (test 6 _ (test 7 _ (test 13 _ (test 2 _ (test 9 _ (test 10 _ (test 11 _ (test 12 _ none)))))))))))
 
--- a refusal gives one of the numbers
-pub listed : {A : Type 0} (ns : List ℕ) (ss : List Step) (a : A) (x : Refusal) → Each ns ss → inOrder ss a ≡ refused x → (k : ℕ) × (x ≡ plain k) × (oneOf ns k ≡ true)
-unfolding inOrder oneOf
+-- a refusal is one of the list
+pub listed : {A : Type 0} (gs : List Gives) (ss : List Step) (a : A) (x : Refusal) → Each gs ss → inOrder ss a ≡ refused x → oneGives gs x ≡ true
+unfolding inOrder oneGives
 listed _ _ a x none e = never (cc)
-listed (n ∷ ns) (got u ∷ ss) a x (next f r) e = let h = listed ns ss a x r e in (h .0, h .1, or-r (eqb (h .0) n) (oneOf ns (h .0)) (h .2))
-listed (n ∷ ns) (refused y ∷ ss) a x (next f r) e = let k : y ≡ x = cc in (n, f x (ap refused k), or-l (eqb n n) (oneOf ns n) (eq-eqb n n refl))
+listed (g ∷ gs) (got u ∷ ss) a x (next f r) e = or-r (gives g x) (oneGives gs x) (listed gs ss a x r e)
+listed (g ∷ gs) (refused y ∷ ss) a x (next f r) e = let k : y ≡ x = cc in or-l (gives g x) (oneGives gs x) (f x (ap refused k))
 
--- so where 0 is none of them, a number 0 says that the work is done
-pub zero-done : {A : Type 0} (ns : List ℕ) (ss : List Step) (a : A) → Each ns ss → oneOf ns 0 ≡ false → numberOf (inOrder ss a) ≡ 0 → inOrder ss a ≡ got a
-zero-done {A} ns ss a r z e = go (inOrder ss a) refl e
+-- no damage has the number 0
+no-zero-damage : (gs : List Gives) (p : ℕ) → oneGives gs (placed 0 p) ≡ false
+unfolding oneGives gives oneOf damageNumbers
+no-zero-damage [] p = refl
+no-zero-damage (alone n ∷ gs) p = no-zero-damage gs p
+no-zero-damage (damage ∷ gs) p = no-zero-damage gs p
+
+-- so where 0 is not in the list, a number 0 says that the work is done
+pub zero-done : {A : Type 0} (gs : List Gives) (ss : List Step) (a : A) → Each gs ss → oneGives gs (plain 0) ≡ false → numberOf (inOrder ss a) ≡ 0 → inOrder ss a ≡ got a
+zero-done {A} gs ss a r z e = go (inOrder ss a) refl e
   where
     go : (m : Answer A) → inOrder ss a ≡ m → numberOf m ≡ 0 → m ≡ got a
     go (got b) h n = ap got (sym (worked ss a b h .1))
-    go (refused (plain k)) h n =
-        let l = listed ns ss a (plain k) r h in
-        let q : plain k ≡ plain (l .0) = l .1 in
-        let m : l .0 ≡ 0 = cc in
-        never (cc (ap (oneOf ns) m))
+    go (refused (plain k)) h n = never (cc (listed gs ss a (plain k) r h, n, z))
+    go (refused (placed k p)) h n = never (cc (listed gs ss a (placed k p) r h, n, no-zero-damage gs p))
+
+-- ---- a place
+
+-- a list without damage
+unplaced : List Gives → Bool
+unplaced [] = true
+unplaced (alone n ∷ gs) = unplaced gs
+unplaced (damage ∷ gs) = false
+
+unplaced-gives : (gs : List Gives) (k p : ℕ) → unplaced gs ≡ true → oneGives gs (placed k p) ≡ false
+unfolding unplaced oneGives gives
+unplaced-gives [] k p u = refl
+unplaced-gives (alone n ∷ gs) k p u = unplaced-gives gs k p u
+unplaced-gives (damage ∷ gs) k p u = never (cc)
+
+-- gives no place
+no-place : {A : Type 0} (gs : List Gives) (ss : List Step) (a : A) (k p : ℕ) → unplaced gs ≡ true → Each gs ss → inOrder ss a ≡ refused (placed k p) → ⊥
+no-place gs ss a k p u r e = never (cc (listed gs ss a (placed k p) r e, unplaced-gives gs k p u))
+
+pub read-spoilt : {A : Type 0} (p room : ℕ) (t : List ℕ) (a : A) (k at : ℕ) → inOrder (readSteps p room t) a ≡ refused (placed k at)
+    → (goodSize p (length t) ≡ true) × Spoilt t k at
+unfolding readSteps unplaced
+read-spoilt p room t a k at e =
+    let h = place-past _ _ _ a k at e in
+    (h .0, on-spoilt t _ a k at (no-place (alone 14 ∷ alone 2 ∷ []) _ a k at refl (test 14 _ (test 2 _ none))) (h .1))
+
+pub edit-spoilt : {A : Type 0} (p room : ℕ) (t locks : List ℕ) (n : ℕ) (s : List ℕ) (a : A) (k at : ℕ) → inOrder (editSteps p room t locks n s) a ≡ refused (placed k at)
+    → (goodSize p (length t) && lockMap p locks (length t) ≡ true) × Spoilt t k at
+unfolding editSteps layingSteps unplaced
+edit-spoilt p room t locks n s a k at e =
+    let h = place-past _ _ _ a k at e in (
+      h .0,
+      on-spoilt t _ a k at
+      (no-place (alone 13 ∷ alone 2 ∷ alone 9 ∷ alone 10 ∷ alone 11 ∷ alone 12 ∷ []) _ a k at refl (test 13 _ (test 2 _ (test 9 _ (test 10 _ (test 11 _ (test 12 _ none)))))))
+      (h .1),
+    )
+
+-- ---- what a C host finds
+
+-- a list with no number of damage alone
+pub apart : List Gives → Bool
+apart [] = true
+apart (alone n ∷ gs) = not (oneOf damageNumbers n) && apart gs
+apart (damage ∷ gs) = apart gs
+
+pub reads-apart : apart readGives ≡ true
+unfolding apart oneOf damageNumbers readGives
+reads-apart = refl
+
+pub edits-apart : apart editGives ≡ true
+unfolding apart oneOf damageNumbers editGives
+edits-apart = refl
+
+apart-plain : (gs : List Gives) (k : ℕ) → apart gs ≡ true → oneGives gs (plain k) ≡ true → oneOf damageNumbers k ≡ false
+unfolding apart oneGives gives
+apart-plain [] k u e = never (cc)
+apart-plain (alone n ∷ gs) k u e = elim (or-inv (eqb k n) (oneGives gs (plain k)) e) [
+  | inl h ↦ ap (oneOf damageNumbers) (eqb-true k n h) ∙ not-t (oneOf damageNumbers n) (and-l (not (oneOf damageNumbers n)) (apart gs) u)
+  | inr h ↦ apart-plain gs k (and-r (not (oneOf damageNumbers n)) (apart gs) u) h
+]
+apart-plain (damage ∷ gs) k u e = apart-plain gs k u e
+
+no-zero-number : oneOf damageNumbers 0 ≡ false
+unfolding oneOf damageNumbers
+no-zero-number = refl
+
+-- the place where the number is one of damage, and else what stood there
+pub place-told : {A : Type 0} (t : List ℕ) (gs : List Gives) (m : Answer A) (r place place′ : ℕ) → apart gs ≡ true → ((x : Refusal) → m ≡ refused x → oneGives gs x ≡ true)
+    → ((k at : ℕ) → m ≡ refused (placed k at) → Damaged t k at) → r ≡ numberOf m → place′ ≡ placeOf m place
+    → (oneOf damageNumbers r ≡ true → Damaged t r place′) × (oneOf damageNumbers r ≡ false → place′ ≡ place)
+place-told t gs (got a) r place place′ u l d n e = (λ h. never (cc (ap (oneOf damageNumbers) n, no-zero-number)), λ h. e)
+place-told t gs (refused (plain k)) r place place′ u l d n e =
+    (λ h. never (cc (ap (oneOf damageNumbers) n, apart-plain gs k u (l (plain k) refl))), λ h. e)
+place-told t gs (refused (placed k at)) r place place′ u l d n e =
+    (λ h. rw (n, e) (d k at refl), λ h. never (cc (ap (oneOf damageNumbers) n, damage-number t k at (d k at refl))))

@@ -266,7 +266,7 @@ split-total (b ∷ bs) = go (isLibrary b) (split-total bs)
     go true ih = omega (arith, length-append b (joined bs), others-le bs)
     go false ih = omega (arith, length-append b (joined bs), length-append b (joined (otherBlocks bs)))
 
-pub walk-total : (f : ℕ) (seen : Bool) (s : List ℕ) (bs : List (List ℕ)) → walk f seen s ≡ got bs → length (joined bs) ≤ length s
+pub walk-total : (f p : ℕ) (seen : Bool) (s : List ℕ) (bs : List (List ℕ)) → walk f p seen s ≡ got bs → length (joined bs) ≤ length s
 unfolding joined
 walk-total =
     walk-induct (λ s bs. length (joined bs) ≤ length s) (λ s. omega arith) (λ s bs ih. omega (arith, ih, length-drop 1 s))
@@ -275,7 +275,7 @@ walk-total =
 -- the blocks of a tag have no more bytes than follow its first 34
 pub blocks-total : (t : List ℕ) → Readable t → length (joined (blocksIn t)) ≤ length t - 34
 unfolding chain
-blocks-total t r = omega (arith, walk-total (length (drop 34 t)) false (drop 34 t) (blocksIn t) (r .blocks), length-drop 34 t)
+blocks-total t r = omega (arith, walk-total (length (drop 34 t)) 34 false (drop 34 t) (blocksIn t) (r .blocks), length-drop 34 t)
 
 -- ---- the layout of what was read
 

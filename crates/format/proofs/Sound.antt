@@ -79,15 +79,15 @@ owner-said t e = elim (said-cases t e) [
 abbrev pub handed : List ℕ → Bool
 handed b = wellFormed b && leb (length b) 255
 
-pub walk-handed : (f : ℕ) (seen : Bool) (s : List ℕ) (bs : List (List ℕ)) → bytes s ≡ true → walk f seen s ≡ got bs → all handed bs ≡ true
+pub walk-handed : (f p : ℕ) (seen : Bool) (s : List ℕ) (bs : List (List ℕ)) → bytes s ≡ true → walk f p seen s ≡ got bs → all handed bs ≡ true
 unfolding all
-walk-handed f seen s bs y e =
+walk-handed f p seen s bs y e =
     walk-induct (λ s bs. bytes s ≡ true → all handed bs ≡ true) (λ s y. refl) (λ s bs ih y. ih (all-drop (λ b. leb b 255) 1 s y))
     (λ s bs w ih y.
     let n : ℕ = getD s 0 0 in
     let short : length (take n s) ≤ 255 = omega (arith, length-take n s, bytes-at 0 s y) in
     and-i (and-i w (le-leb (length (take n s)) 255 short)) (ih (all-drop (λ b. leb b 255) n s y)))
-    f seen s bs e y
+    f p seen s bs e y
 
 pub library-short : (bs : List (List ℕ)) → all handed bs ≡ true → length (libraryBlock bs) ≤ 255
 unfolding all libraryBlock
@@ -208,7 +208,7 @@ agree-owner t e =
 module _ (t : List ℕ) (y : bytes t ≡ true) (r : Readable t) where
   pub blocks-handed : all handed (blocksIn t) ≡ true
   unfolding chain
-  blocks-handed = walk-handed (length (drop 34 t)) false (drop 34 t) (blocksIn t) (all-drop (λ b. leb b 255) 34 t y) (r .blocks)
+  blocks-handed = walk-handed (length (drop 34 t)) 34 false (drop 34 t) (blocksIn t) (all-drop (λ b. leb b 255) 34 t y) (r .blocks)
 
   -- the owner of a readable tag, or none
   pub owner-on : (ownerOn t ≡ []) ⊎ (isOwner (ownerOn t) ≡ true)

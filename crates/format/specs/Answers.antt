@@ -4,9 +4,10 @@ use Prim.Native.Nat.{ℕ}
 use mathlib.Core.Bool.{Bool, true, false}
 use mathlib.Core.List.{List, [], _∷_}
 
--- a refusal gives its number alone
+-- a refusal gives its number alone; one for damage its number and the place, the byte where the damaged block begins
 pub data Refusal : Type 0 where
   plain : ℕ → Refusal
+  placed : ℕ → ℕ → Refusal
 
 pub data Answer (A : Type 0) : Type 0 where
   got : A → Answer A
@@ -20,6 +21,11 @@ Step = Answer (Unit {0})
 unfoldable pub need : ℕ → Bool → Step
 need n true = got tt
 need n false = refused (plain n)
+
+-- refusal n with the place p, unless the test holds
+unfoldable pub needAt : ℕ → ℕ → Bool → Step
+needAt p n true = got tt
+needAt p n false = refused (placed n p)
 
 -- the first refusal met ends the call, and its number goes out unchanged
 unfoldable pub inOrder : {A : Type 0} → List Step → A → Answer A

@@ -13,7 +13,7 @@ use Rattle.format.specs.Sheet.{sheetOf, fitting, entriesIn, rightSheet, 
 use Rattle.format.specs.Layout.{image, fits}
 use Rattle.format.specs.Reading.{contentIn, tagSteps}
 
--- ---- Reading: 1, 3, 4, 5, 6, 7, 14, 2
+-- ---- Reading: 1, 3, 4, 15 to 19, 6, 7, 14, 2
 
 -- the sheet of what a tag holds
 abbrev pub sheetIn : List ℕ → List ℕ
@@ -69,7 +69,7 @@ writing p s t locks =
     let answer : Answer ℕ = inOrder (writeSteps p s t locks) (changed p t new) in
     record { answer = answer; tag = afterwards answer new t }
 
--- ---- Editing: 1, 3, 4, 5, 6, 7, 13, 2, 9, 10, 11, 12
+-- ---- Editing: 1, 3, 4, 15 to 19, 6, 7, 13, 2, 9, 10, 11, 12
 
 -- t is the writer's own layout of the elements c
 abbrev pub layoutIs : Content → List ℕ → Bool

@@ -4,22 +4,39 @@ use mathlib.Core.Bool.{Bool, true, false, not, _&&_, _||_}
 use mathlib.Core.List.{List, [], _∷_, _++_}
 use lib.ListN.{length, getD, take, drop}
 use lib.Dec.{leb, eqb}
-use Rattle.format.specs.Answers.{Answer, got, need, andThen}
+use Rattle.format.specs.Answers.{Answer, got, Step, needAt, inOrder, andThen}
 use Rattle.format.specs.Bytes.{if_then_else_, isEmpty, le16, word, xorAll, strip, upTo, past}
 use Rattle.format.specs.Fields.{text, isOwner}
 
 -- ---- one block
 
--- a block's first byte is its length, then comes a two-byte ID, low byte first
+-- a block's first byte is its length, itself included
+abbrev pub lengthOf : List ℕ → ℕ
+lengthOf b = getD b 0 0
+
+-- then comes a two-byte ID, low byte first
 abbrev pub idOf : List ℕ → ℕ
 idOf b = word (getD b 1 0) (getD b 2 0)
 
--- ID 0 is damage. IDs 1 to 100 are structured: at least 4 bytes, the XOR of the whole block 00. IDs above 100 have at least 3 bytes.
--- A block as long as its first byte says does not run past the tag.
+-- it does not run past the tag: it is as long as it says
+abbrev pub whole : List ℕ → Bool
+whole b = eqb (lengthOf b) (length b)
+
+-- IDs 1 to 100 are structured
+abbrev pub structured : List ℕ → Bool
+structured b = leb (idOf b) 100
+
+-- ID 0 is damage; a structured block has at least 4 bytes
+unfoldable pub named : List ℕ → Bool
+named b = not (eqb (idOf b) 0) && (if structured b then leb 4 (length b) else true)
+
+-- the XOR of a whole structured block is 00; IDs above 100 have no checksum
+unfoldable pub summed : List ℕ → Bool
+summed b = if structured b then eqb (xorAll b) 0 else true
+
+-- at least 3 bytes, and no damage
 unfoldable pub wellFormed : List ℕ → Bool
-wellFormed b =
-    leb 3 (length b) && eqb (getD b 0 0) (length b) && not (eqb (idOf b) 0)
-    && (if leb (idOf b) 100 then leb 4 (length b) && eqb (xorAll b) 0 else true)
+wellFormed b = leb 3 (length b) && whole b && named b && summed b
 
 -- block 1 is the library extension
 abbrev pub isLibrary : List ℕ → Bool
@@ -29,23 +46,40 @@ isLibrary b = eqb (idOf b) 1
 unfoldable pub carriable : List ℕ → Bool
 carriable b = wellFormed b && not (isLibrary b)
 
+-- ---- the damage of a block
+
+-- Block b, as far as the tag has it, begins at byte p; `seen`: a block 1 came before. The damage, in the order in which it is tested:
+-- 15 length 2, 16 past the tag's end, 17 ID 0 or a structured block under 4 bytes, 18 checksum, 19 a second block 1.
+unfoldable pub damageSteps : ℕ → Bool → List ℕ → List Step
+damageSteps p seen b =
+    needAt p 15 (not (eqb (lengthOf b) 2)) ∷
+    needAt p 16 (whole b) ∷
+    needAt p 17 (named b) ∷
+    needAt p 18 (summed b) ∷
+    needAt p 19 (not (isLibrary b && seen)) ∷
+    []
+
+-- which of them it has: the first
+abbrev pub damageOf : ℕ → Bool → List ℕ → Step
+damageOf p seen b = inOrder (damageSteps p seen b) tt
+
 -- ---- the chain
 
--- The blocks up to the end or a byte 00, fillers of one byte left out; 5 at the first damage, a second block 1 among it.
--- `seen`: a block 1 came before. Each turn takes a byte at least, so as many turns as bytes are enough.
-unfoldable pub walk : ℕ → Bool → List ℕ → Answer (List (List ℕ))
-walk zero seen s = got []
-walk (suc turns) seen s =
+-- The blocks of a chain s that begins at byte p, up to the end or a byte 00, fillers of one byte left out; at the first damaged block its
+-- damage. Each turn takes a byte at least, so as many turns as bytes are enough.
+unfoldable pub walk : ℕ → ℕ → Bool → List ℕ → Answer (List (List ℕ))
+walk zero p seen s = got []
+walk (suc turns) p seen s =
     let n : ℕ = getD s 0 0 in
     let b : List ℕ = take n s in
     if eqb n 0 then got [] else
-    if eqb n 1 then walk turns seen (drop 1 s) else
-    andThen (need 5 (wellFormed b && not (isLibrary b && seen))) λ _.
-    andThen (walk turns (isLibrary b || seen) (drop n s)) λ bs.
+    if eqb n 1 then walk turns (p + 1) seen (drop 1 s) else
+    andThen (damageOf p seen b) λ _.
+    andThen (walk turns (p + n) (isLibrary b || seen) (drop n s)) λ bs.
     got (b ∷ bs)
 
-unfoldable pub chain : List ℕ → Answer (List (List ℕ))
-chain s = walk (length s) false s
+unfoldable pub chain : ℕ → List ℕ → Answer (List (List ℕ))
+chain p s = walk (length s) p false s
 
 -- block 1 among the blocks, nothing if there is none; and the others
 unfoldable pub libraryBlock : List (List ℕ) → List ℕ

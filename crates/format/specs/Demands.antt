@@ -5,11 +5,12 @@ use Prim.Native.Nat.{ℕ, _≤_}
 use mathlib.Core.Bool.{true, _&&_}
 use mathlib.Core.List.{List}
 use lib.ListN.{length}
-use Rattle.format.specs.Answers.{Answer, Refusal, got, refused, Step, Passed, FirstRefusal}
+use Rattle.format.specs.Answers.{Answer, Refusal, placed, got, refused, Step, Passed, FirstRefusal}
 use Rattle.format.specs.Bytes.{filled}
 use Rattle.format.specs.Pages.{goodSize, lockMap, changed, Kept}
 use Rattle.format.specs.Elements.{Content, known, el, put}
 use Rattle.format.specs.Sheet.{sheetOf, entries}
+use Rattle.format.specs.Damage.{Spoilt}
 use Rattle.format.specs.Calls.{readSteps, sheetContent, writeSteps, editSteps, Edited, Reader, Writer, Editor}
 use Rattle.format.specs.History.{Own, Edit, State, begin, run, Undone}
 
@@ -31,6 +32,22 @@ WritesExactly write = (p : ℕ) (s t locks : List ℕ) → Exact (writeSteps p s
 abbrev pub EditsExactly : Editor → Type 0
 EditsExactly edit =
     (p : ℕ) (t locks : List ℕ) (n : ℕ) (s buffer : List ℕ) → Exact (editSteps p (length buffer) t locks n s) (edit p t locks n s buffer .answer)
+
+-- ---- demand 1: a refusal for damage gives its number and the place, any other its number alone
+
+-- one thing holds exactly where the other does
+abbrev Exactly : Type 0 → Type 0 → Type 0
+Exactly A B = (A → B) × (B → A)
+
+-- a place is given exactly where 1, 3 and 4 do not hold and the chain is damaged: that of the first damaged block, with its first damage
+abbrev pub ReadsDamage : Reader → Type 0
+ReadsDamage read =
+    (p : ℕ) (t buffer : List ℕ) (k at : ℕ) → Exactly (read p t buffer .answer ≡ refused (placed k at)) ((goodSize p (length t) ≡ true) × Spoilt t k at)
+
+abbrev pub EditsDamage : Editor → Type 0
+EditsDamage edit =
+    (p : ℕ) (t locks : List ℕ) (n : ℕ) (s buffer : List ℕ) (k at : ℕ)
+    → Exactly (edit p t locks n s buffer .answer ≡ refused (placed k at)) ((goodSize p (length t) && lockMap p locks (length t) ≡ true) × Spoilt t k at)
 
 -- ---- demand 1: a refusal changes no byte of any buffer
 

@@ -9,6 +9,7 @@ pub mod Elements
 pub mod Sheet
 pub mod Layout
 pub mod Reading
+pub mod Damage
 pub mod Calls
 pub mod Numbers
 pub mod History

@@ -26,7 +26,7 @@ ownerIn t = strip (part 21 13 t)
 
 -- blocks start at byte 34
 abbrev pub walked : List ℕ → Answer (List (List ℕ))
-walked t = chain (drop 34 t)
+walked t = chain 34 (drop 34 t)
 
 abbrev pub blocksIn : List ℕ → List (List ℕ)
 blocksIn t = orElse (walked t) []
@@ -75,7 +75,7 @@ contentIn t =
       carried = otherBlocks (blocksIn t);
     }
 
--- ---- the refusals of a tag of good size, in order: 3 Content, 4 Check, 5 Block, 6 Field, 7 Mismatch
+-- ---- the refusals of a tag of good size, in order: 3 Content, 4 Check, 15 to 19 damage, 6 Field, 7 Mismatch
 
 unfoldable pub tagSteps : List ℕ → List Step
 tagSteps t =

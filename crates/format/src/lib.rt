@@ -3,16 +3,28 @@
 ghost use mathlib.Core.Path.{_≡_};
 ghost use Rattle.format.specs.Numbers.{numberOf, answerGiven, stageGiven};
 
-// A number, or the number of the refusal. Reading gives the sheet's length, writing the count of pages changed.
+// A refusal gives its number alone; one for damage its number and the byte where the damaged block begins.
+pub enum Refusal {
+    Plain(u32),
+    Placed { number: u32, place: usize },
+}
+
+// A number, or the number of the refusal. Writing gives the count of pages changed.
 pub enum NumberAnswer {
     Done(usize),
     Refused(u32),
 }
 
-// Editing: the count of pages changed and the old element's length, or the number of the refusal.
+// Reading: the sheet's length, or the refusal.
+pub enum ReadAnswer {
+    Done(usize),
+    Refused(Refusal),
+}
+
+// Editing: the count of pages changed and the old element's length, or the refusal.
 pub enum EditAnswer {
     Done { pages: usize, old: usize },
-    Refused(u32),
+    Refused(Refusal),
 }
 
 // A stage of a call: passed, or the number of its refusal.
