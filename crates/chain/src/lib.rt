@@ -1,11 +1,13 @@
 // The walker, and the chain of blocks: document 01, "The chain of blocks".
+use format::Refusal;
 ghost use mathlib.Core.Path.{_≡_};
 ghost use Prim.Native.Nat.{_≤_};
 ghost use lib.ListN.{getD};
 ghost use Rattle.format.specs.Chain.{idOf};
 ghost use Rattle.chain.specs.Part.{thatPart};
-ghost use Rattle.chain.specs.Formed.{formedBy};
-ghost use Rattle.chain.specs.Survey.{surveyOf, surveyNumber};
+ghost use Rattle.format.specs.Numbers.{refusalGiven, refusalOf};
+ghost use Rattle.chain.specs.Formed.{damageBy, formedBy};
+ghost use Rattle.chain.specs.Survey.{surveyGiven, surveyOf};
 
 // ---- the walker
 
@@ -63,7 +65,7 @@ pub fn block_at<'a>(tag: &'a [u8], at: usize) -> &'a [u8]
 
 // ---- the chain
 
-// What the chain holds, or the number of its refusal, 5: it is damaged.
+// What the chain holds, or its first damage.
 pub enum Survey {
     // `library` is where block 1 begins and `length` its length, both 0 where there is none; `count` is how many other
     // blocks there are, and `size` how many bytes they have together; `end` is the place behind the chain, where the 00 stands
@@ -75,7 +77,8 @@ pub enum Survey {
         size: usize,
         end: usize,
     },
-    Refused(u32),
+    // The number of the damage, 15 to 19, and the place where the damaged block begins.
+    Damaged { number: u32, place: usize },
 }
 
 // A block's ID, low byte first; a byte that the block lacks counts as 00.
@@ -85,41 +88,56 @@ pub fn id_of(block: &[u8]) -> usize
     byte_at(block, 1) + 256 * byte_at(block, 2)
 }
 
-// Is the block well formed, where `x` is the XOR of the bytes behind the first? It is looked at only where the block is structured;
-// it is the first byte where the XOR of the whole block is 00.
+// The number of the damage of a block whose length is not 2, 0 for none: 16 to 19, tested in this order. `x` is the XOR of the bytes behind
+// the first; it is looked at only where the block is structured, and is the first byte where the XOR of the whole block is 00. `seen`: a
+// block 1 came before.
+fn damage_by(block: &[u8], x: u8, seen: bool) -> u32
+    ensures { λ r. ⌜ r ≡ damageBy x seen (now (block .entry)) ⌝ }
+{
+    let n = byte_at(block, 0);
+    if n != block.len() {
+        return 16;
+    }
+    let id = id_of(block);
+    if id == 0 {
+        return 17;
+    }
+    if 100 < id {
+        return 0;
+    }
+    if n < 4 {
+        return 17;
+    }
+    if x as usize != n {
+        return 18;
+    }
+    if id == 1 && seen {
+        return 19;
+    }
+    0
+}
+
+// Is the block well formed? `x` as above.
 pub fn formed_by(block: &[u8], x: u8) -> bool
     ensures { λ r. ⌜ r ≡ formedBy x (now (block .entry)) ⌝ }
 {
     if block.len() < 3 {
         return false;
     }
-    if byte_at(block, 0) != block.len() {
-        return false;
-    }
-    let id = id_of(block);
-    if id == 0 {
-        return false;
-    }
-    if 100 < id {
-        return true;
-    }
-    if block.len() < 4 {
-        return false;
-    }
-    x == block[0]
+    damage_by(block, x, false) == 0
 }
 
 // Walks the chain from byte 34, from block to block and over the bytes of each structured block for its XOR, and stops
-// altogether at the first damage, a second block 1 among it.
+// altogether at the first damage.
 pub fn survey_of(tag: &[u8]) -> Survey
-    ensures { λ r. ⌜ r ≡ surveyOf (now (tag .entry)) ⌝ }
+    ensures { λ r. ⌜ surveyGiven r ≡ surveyOf (now (tag .entry)) ⌝ }
 {
     let mut at: usize = 34;
     let mut library: usize = 0;
     let mut length: usize = 0;
     let mut count: usize = 0;
     let mut size: usize = 0;
-    let mut damaged = false;
+    let mut number: u32 = 0;
     'chain: while at < tag.len() {
         let block = block_at(tag, at);
         let n = byte_at(tag, at);
@@ -130,25 +148,25 @@ pub fn survey_of(tag: &[u8]) -> Survey
             at += 1;
             continue 'chain;
         }
+        if n == 2 {
+            number = 15;
+            break 'chain;
+        }
         let id = id_of(block);
         let mut x: u8 = 0;
         if id <= 100 {
-            if id == 1 && length != 0 {
-                damaged = true;
-                break 'chain;
-            }
             let mut k: usize = 1;
             while k < n {
                 if block.len() <= k {
-                    damaged = true;
+                    number = 16;
                     break 'chain;
                 }
                 x = x ^ block[k];
                 k += 1;
             }
         }
-        if !formed_by(block, x) {
-            damaged = true;
+        number = damage_by(block, x, length != 0);
+        if number != 0 {
             break 'chain;
         }
         if id == 1 {
@@ -160,9 +178,7 @@ pub fn survey_of(tag: &[u8]) -> Survey
         }
         at += n;
     }
-    if damaged {
-        Survey::Refused(5)
-    } else {
+    if number == 0 {
         Survey::Whole {
             library,
             length,
@@ -170,15 +186,17 @@ pub fn survey_of(tag: &[u8]) -> Survey
             size,
             end: at,
         }
+    } else {
+        Survey::Damaged { number, place: at }
     }
 }
 
-// The number of a refusal that the survey gave, 0 for none.
-pub fn survey_number(survey: Survey) -> u32
-    ensures { λ r. ⌜ r ≡ surveyNumber survey ⌝ }
+// The refusal that the survey gave, number 0 for none.
+pub fn survey_refusal(survey: Survey) -> Refusal
+    ensures { λ r. ⌜ refusalGiven r ≡ refusalOf (surveyGiven survey) ⌝ }
 {
     match survey {
-        Survey::Whole { .. } => 0,
-        Survey::Refused(k) => k,
+        Survey::Whole { .. } => Refusal::Plain(0),
+        Survey::Damaged { number, place } => Refusal::Placed { number, place },
     }
 }

@@ -8,11 +8,11 @@ use mathlib.Core.List.{List, [], _∷_, _++_}
 use lib.Dec.{eqb}
 use lib.ListN.{length, drop, getD}
 use borrow.Author.Tests.{eqb-true}
-use Rattle.format.specs.Answers.{Answer, Refusal, placed, got, refused, Step, need, needAt, inOrder, andThen, passed}
+use Rattle.format.specs.Answers.{Answer, Refusal, plain, placed, got, refused, Step, need, needAt, inOrder, andThen, passed}
 use Rattle.format.specs.Chain.{isLibrary, damageSteps, damageOf}
 use Rattle.format.specs.Reading.{walked, goodFields, agree, tagSteps}
 use Rattle.format.specs.Damage.{blockAt, Reached, start, filler, block, Damaged, Spoilt}
-use Rattle.format.specs.Numbers.{oneOf, damageNumbers}
+use Rattle.format.specs.Numbers.{oneOf, damageNumbers, numberOf}
 use Rattle.format.proofs.Tests.{never}
 use Rattle.format.proofs.Answers.{refused-inj, then-ok, then-no, then-refused, passed-ok, passed-no, first-ok, first-no, none-refuses, next-ok, refuses, refused-first, works, worked}
 use Rattle.format.proofs.Blocks.{some-block}
@@ -37,6 +37,35 @@ damage-gives p seen b x e =
     placed-step p 18 _ _ tt x e (λ h. (18, h, refl)) λ e.
     placed-step p 19 _ _ tt x e (λ h. (19, h, refl)) λ e.
     none-refuses (tt {0}) x e
+
+no-zero : oneOf damageNumbers 0 ≡ false
+unfolding oneOf damageNumbers
+no-zero = refl
+
+-- its number tells it: 0 says that there is none, another that there is that one
+module _ (p : ℕ) (seen : Bool) (b : List ℕ) where
+  pub number-none : numberOf (damageOf p seen b) ≡ 0 → damageOf p seen b ≡ got tt
+  number-none z = go (damageOf p seen b) refl z
+    where
+      go : (m : Step) → damageOf p seen b ≡ m → numberOf m ≡ 0 → m ≡ got tt
+      go (got tt) e z = refl
+      go (refused (plain j)) e z = never (cc (damage-gives p seen b (plain j) e .1))
+      go (refused (placed j q)) e z =
+          let g = damage-gives p seen b (placed j q) e in
+          let same : placed j q ≡ placed (g .0) p = g .1 in
+          let k : g .0 ≡ 0 = cc in
+          never (cc (ap (oneOf damageNumbers) k, g .2, no-zero))
+
+  pub number-some : (k : ℕ) → numberOf (damageOf p seen b) ≡ k → (k ≡ 0 → ⊥) → damageOf p seen b ≡ refused (placed k p)
+  number-some k n z = go (damageOf p seen b) refl n
+    where
+      go : (m : Step) → damageOf p seen b ≡ m → numberOf m ≡ k → m ≡ refused (placed k p)
+      go (got tt) e n = absurd (z (sym n))
+      go (refused (plain j)) e n = never (cc (damage-gives p seen b (plain j) e .1))
+      go (refused (placed j q)) e n =
+          let g = damage-gives p seen b (placed j q) e in
+          let same : placed j q ≡ placed (g .0) p = g .1 in
+          cc
 
 -- ---- of the chain
 

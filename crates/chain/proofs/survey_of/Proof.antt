@@ -7,57 +7,57 @@ use mathlib.Core.List.{List}
 use Prim.Native.Nat.{ℕ, _+_, _-_, _≤_}
 use native.Mathlib.Omega.{arith}
 use lib.Bits.{bitXor}
+use lib.Dec.{eqb}
 use lib.ListN.{length, getD, drop, length-take}
 use borrow.Author.Needs.{needs}
-use borrow.Author.Tests.{eq-eqb, ne-eqb, not-true, not-false}
+use borrow.Author.Tests.{eq-eqb, ne-eqb}
+use Rattle.format.specs.Answers.{Answer, placed, got, refused, inOrder}
 use Rattle.format.specs.Bytes.{if_then_else_, xorAll}
-use Rattle.format.specs.Chain.{idOf, wellFormed}
-use Rattle.format.proofs.Tests.{and-left}
-use Rattle.chain.specs.declared.Survey.{Survey}
-use Rattle.chain.specs.declared.Survey.the-variants.{Whole, Refused}
-use Rattle.chain.specs.Survey.{surveyOf}
-use Rattle.chain.proofs.Chain.{blockIn, past-end, Stands, stands}
-use Rattle.chain.proofs.Formed.{formed-well}
-use Rattle.chain.proofs.Turns.{xor-more, xor-all, seen, SoFar, start, ended, filler, damaged, cut-short, second, library, other, moved}
+use Rattle.format.specs.Chain.{lengthOf, idOf, damageSteps, damageOf}
+use Rattle.format.specs.Damage.{blockAt}
+use Rattle.format.proofs.Blocks.{undamaged}
+use Rattle.format.proofs.Chains.{past-end, says-at, Stands, stands}
+use Rattle.format.proofs.Damages.{number-none, number-some}
+use Rattle.format.specs.Numbers.{numberOf}
+use Rattle.chain.specs.Formed.{damageBy}
+use Rattle.chain.specs.Survey.{Found, surveyOf}
+use Rattle.chain.proofs.Formed.{damage-by, length-two, cut-short}
+use Rattle.chain.proofs.Turns.{xor-more, xor-all, found, seen, SoFar, start, ended, filler, damaged, library, other, moved}
 use Rattle.chain.proofs.survey_of.Statement.{statement}
 use Rattle.chain.proofs.survey_of.Tie as tie
 
 abbrev Inv-loop : tie.InvT-loop
-Inv-loop tag at l len count size bad₀ block n id x₀ k₀ bad x k =
-    (bad ≡ false) × (bitXor x (xorAll (drop k block)) ≡ xorAll (drop 1 block))
+Inv-loop tag at l len count size number₀ block n id x₀ k₀ number x k =
+    (number ≡ 0) × (bitXor x (xorAll (drop k block)) ≡ xorAll (drop 1 block))
 
 abbrev μ-loop : tie.MeasureT-loop
-μ-loop tag at l len count size bad₀ block n id x₀ k₀ bad x k = n - k
+μ-loop tag at l len count size number₀ block n id x₀ k₀ number x k = n - k
 
 abbrev Inv-chain : tie.InvT-chain
-Inv-chain tag at₀ l₀ len₀ count₀ size₀ bad₀ at l len count size bad = (bad ≡ false) × SoFar tag at l len count size
+Inv-chain tag at₀ l₀ len₀ count₀ size₀ number₀ at l len count size number = (number ≡ 0) × SoFar tag at l len count size
 
 abbrev μ-chain : tie.MeasureT-chain
-μ-chain tag at₀ l₀ len₀ count₀ size₀ bad₀ at l len count size bad = length tag - at
+μ-chain tag at₀ l₀ len₀ count₀ size₀ number₀ at l len count size number = length tag - at
 
--- ---- the XOR that a block is judged with
+-- ---- what is known of a block whose length is not 0, 1 or 2
 
--- the block has no more bytes than its first says
-short : (c : tie.Joined3 Inv-loop μ-loop Inv-chain μ-chain) → length (c .before .before .before .before .before .block-at .result .now) ≤ c .before .before .before .before .byte-at .result
-short c =
-    let t : List ℕ = c .before .before .before .before .before .before .before .before .before .args .tag .now in
-    let at : ℕ = c .before .before .before .before .before .before .before .chain .at in
-    omega (arith, ap length (c .before .before .before .before .before .block-at .ensures .0), length-take (getD t at 0) (drop at t), c .before .before .before .before .byte-at .ensures .0)
+three-at-least : (n g : ℕ) → n ≡ g → (n ≡ 0 → ⊥) → (n ≡ 1 → ⊥) → (n ≡ 2 → ⊥) → 3 ≤ g
+three-at-least n g e h k l = omega arith
 
-summed : (c : tie.Joined3 Inv-loop μ-loop Inv-chain μ-chain) → let b = c .before .before .before .before .before .block-at .result .now in idOf b ≤ 100 → c .if3 .x ≡ xorAll (drop 1 b)
-summed c low =
-    ⊎-elim (λ w. w .5 ∙ xor-all (c .before .before .before .before .before .block-at .result .now) (w .2 .k) (w .2 .x) (omega (arith, w .3 .left, short c)) (w .2 .inv .1))
-    (λ w. absurd (omega (arith, w .0 .left, c .before .id-of .ensures, low))) (c .if3 .came)
+-- its length, as it says, is not 2
+not-two : (t : List ℕ) (at : ℕ) → 3 ≤ getD t at 0 → lengthOf (blockAt t at) ≡ 2 → ⊥
+not-two t at h e = omega (arith, says-at t at false (omega arith))
 
--- ---- what is known where a block was judged
+-- it has no more bytes than it says
+no-longer : (t : List ℕ) (at : ℕ) → length (blockAt t at) ≤ getD t at 0
+no-longer t at = omega (arith, length-take (getD t at 0) (drop at t))
 
-two-at-least : (n g : ℕ) → n ≡ g → (n ≡ 0 → ⊥) → (n ≡ 1 → ⊥) → 2 ≤ g
-two-at-least n g e h k = omega arith
+-- ---- a block is judged
 
-module _ (c : tie.Else7 Inv-loop μ-loop Inv-chain μ-chain) where
+module _ (c : tie.Joined4 Inv-loop μ-loop Inv-chain μ-chain) where
   -- where the turn began
   abbrev turn : tie.At-chain Inv-loop μ-loop Inv-chain μ-chain
-  turn = c .before .before .before .before .before .before .before .before .before
+  turn = c .before .before .before .before .before .before .before .before
 
   abbrev tag : List ℕ
   tag = turn .before .before .args .tag .now
@@ -66,52 +66,68 @@ module _ (c : tie.Else7 Inv-loop μ-loop Inv-chain μ-chain) where
   at = turn .chain .at
 
   -- the number that the block's first byte is, and the block
-  size : c .before .before .before .before .before .before .byte-at .result ≡ getD tag at 0
-  size = c .before .before .before .before .before .before .byte-at .ensures .0
+  size : c .before .before .before .before .before .byte-at .result ≡ getD tag at 0
+  size = c .before .before .before .before .before .byte-at .ensures .0
 
-  is : c .before .before .before .before .before .before .before .block-at .result .now ≡ blockIn tag at
-  is = c .before .before .before .before .before .before .before .block-at .ensures .0
+  is : c .before .before .before .before .before .before .block-at .result .now ≡ blockAt tag at
+  is = c .before .before .before .before .before .before .block-at .ensures .0
 
-  id-is : c .before .before .before .id-of .result ≡ idOf (blockIn tag at)
-  id-is = c .before .before .before .id-of .ensures ∙ ap idOf is
+  id-is : c .before .id-of .result ≡ idOf (blockAt tag at)
+  id-is = c .before .id-of .ensures ∙ ap idOf is
 
-  two : 2 ≤ getD tag at 0
-  two = two-at-least _ _ size (c .before .before .before .before .before .if1 .left) (c .before .before .before .before .if2 .left)
+  three : 3 ≤ getD tag at 0
+  three = three-at-least _ _ size (c .before .before .before .before .if1 .left) (c .before .before .before .if2 .left) (c .before .before .if3 .left)
 
-  well : wellFormed (blockIn tag at) ≡ true
-  well =
-      sym (ap wellFormed is) ∙ sym (formed-well (c .before .before .before .before .before .before .before .block-at .result .now) (c .before .before .if3 .x) (summed (c .before .before)))
-      ∙ sym (c .before .formed-by .ensures) ∙ not-false _ (c .if7 .left)
+  -- the XOR that it is judged with
+  summed : idOf (blockAt tag at) ≤ 100 → c .if4 .x ≡ xorAll (drop 1 (blockAt tag at))
+  summed low =
+      ⊎-elim (λ w. w .3 ∙ xor-all (c .before .before .before .before .before .before .block-at .result .now) (w .1 .k) (w .1 .x) (omega (arith, w .2 .left, ap length is, no-longer tag at, size)) (w .1 .inv .1) ∙ ap (λ (b : List ℕ). xorAll (drop 1 b)) is)
+      (λ w. absurd (omega (arith, w .0 .left, id-is, low))) (c .if4 .came)
 
-  stands-here : Stands tag at
-  stands-here = stands tag at well
+  -- the number of its damage
+  number-is : (r : ℕ) → r ≡ damageBy (c .if4 .x) (seen (turn .chain .length)) (c .before .before .before .before .before .before .block-at .result .now)
+      → numberOf (damageOf at (seen (turn .chain .length)) (blockAt tag at)) ≡ r
+  number-is r e = sym (e ∙ ap (damageBy (c .if4 .x) (seen (turn .chain .length))) is ∙ damage-by at (seen (turn .chain .length)) (blockAt tag at) (c .if4 .x) (not-two tag at three) summed)
 
-  -- no block 1 came before a block 1
-  single : c .before .before .before .id-of .result ≡ 1 → seen (turn .chain .length) ≡ false
-  single e = ⊎-elim (λ w. ⊎-elim (λ v. v .1 .left) (λ v. absurd (v .left e)) (w .1 .came)) (λ w. absurd (omega (arith, w .0 .left, e))) (c .before .before .if3 .came)
+-- ---- it has none
+
+module _ (c : tie.Else6 Inv-loop μ-loop Inv-chain μ-chain) where
+  abbrev judged : tie.Joined4 Inv-loop μ-loop Inv-chain μ-chain
+  judged = c .before .before
+
+  none : damageOf (at judged) (seen (turn judged .chain .length)) (blockAt (tag judged) (at judged)) ≡ got tt
+  none = number-none (at judged) (seen (turn judged .chain .length)) (blockAt (tag judged) (at judged)) (number-is judged _ (c .before .damage-by .ensures) ∙ c .if6 .left)
+
+  two : 2 ≤ getD (tag judged) (at judged) 0
+  two = omega (arith, three judged)
+
+  stands-here : Stands (tag judged) (at judged)
+  stands-here = stands (tag judged) (at judged) (undamaged (at judged) (seen (turn judged .chain .length)) (blockAt (tag judged) (at judged)) tt (omega (arith, two, says-at (tag judged) (at judged) false (omega (arith, two)))) none .0)
 
   -- what is found with block 1, and with another
-  with-library : c .before .before .before .id-of .result ≡ 1 → SoFar tag (at + getD tag at 0) at (getD tag at 0) (turn .chain .count) (turn .chain .size)
-  with-library e = library tag at _ _ _ _ (turn .chain .inv .1) two well (eq-eqb (idOf (blockIn tag at)) 1 (sym id-is ∙ e)) (single e)
+  with-library : judged .before .id-of .result ≡ 1
+      → SoFar (tag judged) (at judged + getD (tag judged) (at judged) 0) (at judged) (getD (tag judged) (at judged) 0) (turn judged .chain .count) (turn judged .chain .size)
+  with-library e = library (tag judged) (at judged) _ _ _ _ (turn judged .chain .inv .1) two none (eq-eqb (idOf (blockAt (tag judged) (at judged))) 1 (sym (id-is judged) ∙ e))
 
-  with-other : (c .before .before .before .id-of .result ≡ 1 → ⊥) → SoFar tag (at + getD tag at 0) (turn .chain .library) (turn .chain .length) (turn .chain .count + 1) (turn .chain .size + getD tag at 0)
-  with-other e = other tag at _ _ _ _ (turn .chain .inv .1) two well (ne-eqb (idOf (blockIn tag at)) 1 (λ h. e (id-is ∙ h)))
-
-  -- the byte loop, if there was one, found no damage
-  unharmed : c .before .before .if3 .damaged ≡ false
-  unharmed = ⊎-elim (λ w. w .4 ∙ w .2 .inv .0) (λ w. w .1 ∙ turn .chain .inv .0) (c .before .before .if3 .came)
+  with-other : (judged .before .id-of .result ≡ 1 → ⊥)
+      → SoFar (tag judged) (at judged + getD (tag judged) (at judged) 0) (turn judged .chain .library) (turn judged .chain .length) (turn judged .chain .count + 1) (turn judged .chain .size + getD (tag judged) (at judged) 0)
+  with-other e = other (tag judged) (at judged) _ _ _ _ (turn judged .chain .inv .1) two none (ne-eqb (idOf (blockAt (tag judged) (at judged))) 1 (λ h. e (id-is judged ∙ h)))
 
 -- ---- the ways out
 
-so : (d : Bool) (w : Survey) {r : Survey} → d ≡ false → w ≡ r → (if d then Refused 5 else w) ≡ r
-so d w e q = ap (λ (x : Bool). if x then Refused 5 else w) e ∙ q
+-- what is told of a number k, at the byte `at`
+abbrev told : ℕ → ℕ → Found → Answer Found
+told k at f = if eqb k 0 then got f else refused (placed k at)
 
-not-so : (d : Bool) (w : Survey) {r : Survey} → d ≡ true → Refused 5 ≡ r → (if d then Refused 5 else w) ≡ r
-not-so d w e q = ap (λ (x : Bool). if x then Refused 5 else w) e ∙ q
+whole : (k at : ℕ) (f : Found) {r : Answer Found} → k ≡ 0 → got f ≡ r → told k at f ≡ r
+whole k at f e q = ap (λ (n : ℕ). told n at f) e ∙ q
 
--- however the chain was left, the flag and the numbers say what is right
+harmed : (k j at : ℕ) (f : Found) {r : Answer Found} → k ≡ j → (j ≡ 0 → ⊥) → refused (placed j at) ≡ r → told k at f ≡ r
+harmed k j at f e z q = ap (λ (n : ℕ). told n at f) e ∙ rw (ne-eqb j 0 z) q
+
+-- however the chain was left, the number and the rest say what is right
 left-rightly : (c : tie.Left-chain Inv-loop μ-loop Inv-chain μ-chain)
-    → (if c .chain-test .damaged then Refused 5 else Whole (c .before .chain .library) (c .before .chain .length) (c .before .chain .count) (c .before .chain .size) (c .before .chain .at))
+    → told (c .chain-test .number) (c .before .chain .at) (found (c .before .chain .library) (c .before .chain .length) (c .before .chain .count) (c .before .chain .size) (c .before .chain .at))
     ≡ surveyOf (c .before .before .before .args .tag .now)
 left-rightly c =
     let t : List ℕ = c .before .before .before .args .tag .now in
@@ -119,21 +135,21 @@ left-rightly c =
     let i = c .before .chain .inv in
     let damage = damaged t at _ _ _ _ (i .1) in
     elim (c .chain-test .came) [
-      | inl w ↦ so _ _ (w .1 ∙ i .0) (ended t at _ _ _ _ (i .1) (past-end t at (w .0 .left)))
+      | inl w ↦ whole _ _ _ (w .1 ∙ i .0) (ended t at _ _ _ _ (i .1) (past-end t at (w .0 .left)))
       | inr v ↦ elim v [
-        | inl w ↦ so _ _ (w .4 ∙ i .0) (ended t at _ _ _ _ (i .1) (sym (w .2 .ensures .0) ∙ w .3 .taken))
+        | inl w ↦ whole _ _ _ (w .4 ∙ i .0) (ended t at _ _ _ _ (i .1) (sym (w .2 .ensures .0) ∙ w .3 .taken))
         | inr v ↦ elim v [
           | inl w ↦
-              let h = two-at-least _ _ (w .2 .ensures .0) (w .3 .left) (w .4 .left) in
-              not-so _ _ (w .9) (damage h (second t at _ _ _ _ (i .1) h (eq-eqb _ 1 (sym (w .5 .ensures ∙ ap idOf (w .1 .ensures .0)) ∙ w .7 .taken)) (w .8 .taken)))
+              let two : getD t at 0 ≡ 2 = sym (w .2 .ensures .0) ∙ w .5 .taken in
+              harmed _ 15 _ _ (w .6) (λ e. omega arith) (damage (omega arith) 15 (length-two at _ (blockAt t at) (says-at t at false (omega arith) ∙ two)))
           | inr v ↦ elim v [
             | inl w ↦
-                let h = two-at-least _ _ (w .2 .ensures .0) (w .3 .left) (w .4 .left) in
-                not-so _ _ (w .11) (damage h (cut-short t at _ _ _ _ (i .1) h (omega (arith, w .2 .ensures .0, ap length (w .1 .ensures .0), w .9 .taken, w .10 .taken))))
+                let h = three-at-least _ _ (w .2 .ensures .0) (w .3 .left) (w .4 .left) (w .5 .left) in
+                let short : lengthOf (blockAt t at) ≡ length (blockAt t at) → ⊥ = λ e. omega (arith, e, says-at t at false (omega arith), w .2 .ensures .0, ap length (w .1 .ensures .0), w .9 .taken, w .10 .taken) in
+                harmed _ 16 _ _ (w .11) (λ e. omega arith) (damage (omega arith) 16 (cut-short at _ (blockAt t at) (not-two t at h) short))
             | inr w ↦
-                let j : tie.Joined3 Inv-loop μ-loop Inv-chain μ-chain = record { before = _; if3 = w .6 } in
-                let ill = sym (ap wellFormed (w .1 .ensures .0)) ∙ sym (formed-well (w .1 .result .now) (w .6 .x) (summed j)) ∙ sym (w .7 .ensures) ∙ not-true _ (w .8 .taken) in
-                not-so _ _ (w .9) (damage (two-at-least _ _ (w .2 .ensures .0) (w .3 .left) (w .4 .left)) (and-left _ _ ill))
+                let j : tie.Joined4 Inv-loop μ-loop Inv-chain μ-chain = record { before = _; if4 = w .7 } in
+                harmed _ _ _ _ (w .10) (w .9 .taken) (damage (omega (arith, three j)) _ (number-some at _ (blockAt t at) _ (number-is j _ (w .8 .ensures)) (w .9 .taken)))
           ]
         ]
       ]
@@ -179,38 +195,39 @@ loop-less c = search needs
 loop-again : tie.Need-loop-again Inv-loop μ-loop Inv-chain μ-chain
 loop-again c =
     let l = c .before .before .before .loop in
-    (l .inv .0, xor-more (c .before .before .before .before .before .before .before .before .before .before .block-at .result .now) (l .k) (l .x) (c .before .if6 .left) (l .inv .1))
+    (l .inv .0, xor-more (c .before .before .before .before .before .before .before .before .before .before .block-at .result .now) (l .k) (l .x) (c .before .if5 .left) (l .inv .1))
 
-formed-by-requires : tie.Need-formed-by-requires Inv-loop μ-loop Inv-chain μ-chain
-formed-by-requires c κs = search needs
+damage-by-requires : tie.Need-damage-by-requires Inv-loop μ-loop Inv-chain μ-chain
+damage-by-requires c κs = search needs
 
 add-count : tie.Need-add-count Inv-loop μ-loop Inv-chain μ-chain
-add-count c = omega (arith, turn (c .before) .chain .inv .1 .room, turn (c .before) .chain .inv .1 .fewer)
+add-count c = let j = judged (c .before) in omega (arith, turn j .chain .inv .1 .room, turn j .chain .inv .1 .fewer)
 
 add-size : tie.Need-add-size Inv-loop μ-loop Inv-chain μ-chain
-add-size c = omega (arith, turn (c .before) .chain .inv .1 .room, size (c .before), stands-here (c .before) .inside)
+add-size c = let j = judged (c .before) in omega (arith, turn j .chain .inv .1 .room, size j, stands-here (c .before) .inside)
 
 add-at-2 : tie.Need-add-at-2 Inv-loop μ-loop Inv-chain μ-chain
-add-at-2 c = omega (arith, size (c .before), stands-here (c .before) .inside)
+add-at-2 c = omega (arith, size (judged (c .before)), stands-here (c .before) .inside)
 
 chain-less-2 : tie.Need-chain-less-2 Inv-loop μ-loop Inv-chain μ-chain
-chain-less-2 c = omega (arith, size (c .before), stands-here (c .before) .inside, two (c .before))
+chain-less-2 c = omega (arith, size (judged (c .before)), stands-here (c .before) .inside, two (c .before))
 
 chain-again-2 : tie.Need-chain-again-2 Inv-loop μ-loop Inv-chain μ-chain
 chain-again-2 c =
     let d = c .before in
-    let n = sym (size d) in
-    let next = ap (λ (k : ℕ). turn (c .before) .chain .at + k) n in (
-      unharmed d,
-      ⊎-elim (λ w. moved (tag d) next (sym (w .1)) (n ∙ sym (w .2)) (sym (w .3)) (sym (w .4)) (with-library d (w .0 .taken)))
-          (λ w. moved (tag d) next (sym (w .1)) (sym (w .2)) (sym (w .3)) (ap (λ (k : ℕ). turn (c .before) .chain .size + k) n ∙ sym (w .4)) (with-other d (w .0 .left))) (c .if8 .came),
+    let j = judged d in
+    let n = sym (size j) in
+    let next = ap (λ (k : ℕ). turn j .chain .at + k) n in (
+      d .if6 .left,
+      ⊎-elim (λ w. moved (tag j) next (sym (w .1)) (n ∙ sym (w .2)) (sym (w .3)) (sym (w .4)) (with-library d (w .0 .taken)))
+          (λ w. moved (tag j) next (sym (w .1)) (sym (w .2)) (sym (w .3)) (ap (λ (k : ℕ). turn j .chain .size + k) n ∙ sym (w .4)) (with-other d (w .0 .left))) (c .if7 .came),
     )
 
 returns : tie.Need-returns Inv-loop μ-loop Inv-chain μ-chain
-returns c = sym (not-so (c .before .chain-test .damaged) _ (c .if9 .taken) refl) ∙ left-rightly (c .before)
+returns c = sym (whole (c .before .chain-test .number) _ _ (c .if8 .taken) refl) ∙ left-rightly (c .before)
 
 returns-2 : tie.Need-returns-2 Inv-loop μ-loop Inv-chain μ-chain
-returns-2 c = sym (so (c .before .chain-test .damaged) _ (c .if9 .left) refl) ∙ left-rightly (c .before)
+returns-2 c = sym (harmed (c .before .chain-test .number) _ _ _ refl (c .if8 .left) refl) ∙ left-rightly (c .before)
 
 pub survey-of-spec : {M : Type 1} → statement M
 survey-of-spec =
@@ -232,7 +249,7 @@ survey-of-spec =
     add-k
     loop-less
     loop-again
-    formed-by-requires
+    damage-by-requires
     add-count
     add-size
     add-at-2
