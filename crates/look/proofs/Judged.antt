@@ -4,11 +4,13 @@ use Prim.Native.Nat.{ℕ, _≤_}
 use mathlib.Core.Bool.{true, false}
 use mathlib.Core.List.{List, [], _++_, append-nil}
 use lib.ListN.{length}
-use Rattle.format.specs.Answers.{Refusal, got, refused, plain, Step, inOrder}
+use Rattle.format.specs.Answers.{Refusal, got, refused, Step, inOrder}
 use Rattle.format.specs.Bytes.{bytes}
 use Rattle.format.specs.Pages.{pageSize, goodSize}
 use Rattle.format.specs.Elements.{numbers, clash, valuesAt, sound}
 use Rattle.format.specs.Reading.{contentIn, tagSteps, Readable}
+use Rattle.format.specs.Numbers.{refusalGiven}
+use Rattle.format.specs.declared.Refusal as code
 use Rattle.format.proofs.Answers.{next-inv, in-order-append, then-no, works, worked, afterwards-got, refused-with}
 use Rattle.format.proofs.Readable.{on-readable}
 use Rattle.format.proofs.Layouts.{size-most}
@@ -38,9 +40,9 @@ module _ (t ats lens made : List ℕ) (r : Look) (ats′ lens′ made′ : List 
         made-is = h .made-left ∙ afterwards-got (looking t) v _ _ a;
       }
 
-  pub looked-refused : (k : ℕ) → r ≡ look.Refused k → judged t ≡ refused (plain k)
+  pub looked-refused : (x : code.Refusal) → r ≡ look.Refused x → judged t ≡ refused (refusalGiven x)
   unfolding looking
-  looked-refused k e = refused-with (lookSteps t) (viewIn t) tt (plain k) (answer (look.Refused k) e)
+  looked-refused x e = refused-with (lookSteps t) (viewIn t) tt (refusalGiven x) (answer (look.Refused x) e)
 
 -- ---- the steps of looking
 

@@ -14,12 +14,13 @@ use Rattle.format.specs.Bytes.{if_then_else_, part, bytes, joined, filled}
 use Rattle.format.specs.Pages.{pageSize, goodSize}
 use Rattle.format.specs.Pieces.{Held}
 use Rattle.format.specs.Chain.{libraryBlock, otherBlocks}
-use Rattle.format.specs.Reading.{blocksIn, contentIn, Readable}
+use Rattle.format.specs.Reading.{walked, blocksIn, contentIn, Readable}
 use Rattle.format.specs.Calls.{ownLayout}
 use Rattle.format.proofs.Tests.{never, and-iff, or-inv, not-t}
+use Rattle.format.proofs.Answers.{then-ok}
 use Rattle.format.proofs.Strings.{nil-of}
 use Rattle.rows.specs.Rows.{slotsAt, Row}
-use Rattle.chain.specs.Survey.{endAt, surveyed, surveyOf}
+use Rattle.chain.specs.Survey.{endAt, surveyOf}
 use Rattle.chain.proofs.Laws.{Surveyed, survey-whole}
 use Rattle.chain.proofs.Piece.{OnePiece, in-one-piece, own-piece}
 use Rattle.look.specs.declared.Look.the-variants as look
@@ -83,8 +84,8 @@ pub record Seen (t made : List ℕ) : Type 0 where
 
 module _ (t made : List ℕ) (y : bytes t ≡ true) (long : length made ≡ 19) (g : goodSize pageSize (length t) ≡ true) (r : Readable t) where
   survey : Surveyed t (blockIn t) (length (libraryBlock (blocksIn t))) (length (otherBlocks (blocksIn t))) (length (joined (otherBlocks (blocksIn t)))) (endAt (length (drop 34 t)) 34 (drop 34 t))
-  unfolding surveyOf surveyed
-  survey = survey-whole t _ _ _ _ _ (ap (surveyed (blockIn t) (endAt (length (drop 34 t)) 34 (drop 34 t))) (r .blocks))
+  unfolding surveyOf
+  survey = survey-whole t _ _ _ _ _ (then-ok (walked t) _ (blocksIn t) (r .blocks))
 
   block : Held t (from (blockIn t) (length (libraryBlock (blocksIn t)))) (libraryBlock (blocksIn t))
   block = record { inside = survey .inside; is = survey .library }

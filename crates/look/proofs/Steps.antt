@@ -10,8 +10,9 @@ use lib.Seq.{drop-cons}
 use lib.Dec.{eqb, leb}
 use borrow.Author.Tests.{eq-eqb, ne-eqb}
 use Rattle.format.specs.declared.Part.{Part}
+use Rattle.format.specs.declared.Refusal.{Refusal}
 use Rattle.format.specs.Answers.{Answer, got, refused, plain, Step, need, inOrder, passed, afterwards}
-use Rattle.format.specs.Numbers.{numberOf}
+use Rattle.format.specs.Numbers.{numberOf, refusalGiven}
 use Rattle.format.specs.Bytes.{same, le16, part, filled}
 use Rattle.format.specs.Pages.{pageSize, goodSize}
 use Rattle.format.specs.Fields.{goodItem, goodOwner}
@@ -171,9 +172,9 @@ module _ (t : List ℕ) where
 
 -- ---- the outcome
 
-pub stopped : {t ats lens made : List ℕ} {k : ℕ} → looking t ≡ refused (plain k) → Looked t ats lens made (look.Refused k) ats lens made
-stopped {t} {ats} {lens} {made} {k} e =
-    let same : (new old : List ℕ) → old ≡ afterwards (looking t) new old = λ new old. sym (afterwards-refused (looking t) (plain k) new old e) in
+pub stopped : {t ats lens made : List ℕ} {x : Refusal} → looking t ≡ refused (refusalGiven x) → Looked t ats lens made (look.Refused x) ats lens made
+stopped {t} {ats} {lens} {made} {x} e =
+    let same : (new old : List ℕ) → old ≡ afterwards (looking t) new old = λ new old. sym (afterwards-refused (looking t) (refusalGiven x) new old e) in
     record { answered = sym e; ats-left = same _ ats; lens-left = same _ lens; made-left = same _ made }
 
 pub looked : {t ats lens made ats′ lens′ made′ : List ℕ} {l n c z d : ℕ} {i : ItemParts} {o : OwnerParts} {f : LibraryParts} {p : Part} → Surveyed t l n c z d → FieldsOf t i o f

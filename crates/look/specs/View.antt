@@ -3,11 +3,12 @@ use mathlib.Core.Path.{_≡_}
 use Prim.Native.Nat.{ℕ}
 use mathlib.Core.List.{List, _∷_}
 use lib.ListN.{length, drop}
-use Rattle.format.specs.Answers.{Answer, got, refused, plain, Step, inOrder, need, afterwards}
+use Rattle.format.specs.Answers.{Answer, got, refused, Step, inOrder, need, afterwards}
 use Rattle.format.specs.Bytes.{joined, filled}
 use Rattle.format.specs.Pages.{pageSize, goodSize}
 use Rattle.format.specs.Chain.{libraryBlock, otherBlocks}
 use Rattle.format.specs.Reading.{blocksIn, tagSteps}
+use Rattle.format.specs.Numbers.{refusalGiven}
 use Rattle.chain.specs.Survey.{libraryAt, endAt}
 use Rattle.look.specs.declared.View.{View}
 use Rattle.look.specs.declared.Look.{Look}
@@ -43,7 +44,7 @@ viewIn t =
 
 -- ---- the answer
 
--- the steps 1, 3, 4, 5, 6 and 7 in order
+-- the steps 1, 3, 4, 15 to 19, 6 and 7 in order
 abbrev pub lookSteps : List ℕ → List Step
 lookSteps t = need 1 (goodSize pageSize (length t)) ∷ tagSteps t
 
@@ -53,9 +54,9 @@ judged t = inOrder (lookSteps t) tt
 -- the paper's number and values for each case
 abbrev pub lookGiven : Look → Answer View
 lookGiven (Seen v) = got v
-lookGiven (Refused k) = refused (plain k)
+lookGiven (Refused x) = refused (refusalGiven x)
 
--- what looking at a tag answers: 1, 3, 4, 5, 6 and 7 in order, or what it holds
+-- what looking at a tag answers: these steps in order, or what it holds
 unfoldable pub looking : List ℕ → Answer View
 looking t = inOrder (lookSteps t) (viewIn t)
 

@@ -1,4 +1,4 @@
-// Looking at a tag: its refusals 1, 3, 4, 5, 6 and 7, and what it holds.
+// Looking at a tag: its refusals 1, 3, 4, 15 to 19, 6 and 7, and what it holds.
 mod basic;
 mod judge;
 mod owner;
@@ -6,10 +6,11 @@ mod row;
 
 use chain::Survey;
 use format::Part;
+use format::Refusal;
 use format::Stage;
 use judge::FieldsFound;
 ghost use mathlib.Core.Path.{_≡_};
-ghost use Rattle.format.specs.Numbers.{numberOf};
+ghost use Rattle.format.specs.Numbers.{refusalGiven, refusalOf};
 ghost use Rattle.look.specs.View.{lookGiven, Looked};
 
 // The carried blocks of a readable tag: there are `count`, of `size` bytes together; where `blocks` is as long, it is they in one piece, so
@@ -20,30 +21,30 @@ pub struct View {
     pub blocks: Part,
 }
 
-// What looking at a tag finds, or the number of the refusal.
+// What looking at a tag finds, or the refusal.
 pub enum Look {
     Seen(View),
-    Refused(u32),
+    Refused(Refusal),
 }
 
-// The number of a refusal that looking gave, 0 for none.
-pub fn look_number(l: Look) -> u32
-    ensures { λ r. ⌜ r ≡ numberOf (lookGiven l) ⌝ }
+// The refusal that looking gave, number 0 for none.
+pub fn look_refusal(l: Look) -> Refusal
+    ensures { λ r. ⌜ refusalGiven r ≡ refusalOf (lookGiven l) ⌝ }
 {
     match l {
-        Look::Seen(_) => 0,
-        Look::Refused(k) => k,
+        Look::Seen(_) => Refusal::Plain(0),
+        Look::Refused(refusal) => refusal,
     }
 }
 
-// Looks at a tag: the refusals 1, 3, 4, 5, 6 and 7 in order, or what it holds and where. `made` takes what the tag does not have in sheet
+// Looks at a tag: the refusals 1, 3, 4, 15 to 19, 6 and 7 in order, or what it holds and where. `made` takes what the tag does not have in sheet
 // form: set information, 4 bytes, usage, 1, and an ISIL of the owner field with its hyphen, at most 14.
 pub fn look_at(tag: &[u8], ats: &mut [usize; 7], lens: &mut [usize; 7], made: &mut [u8; 19]) -> Look
     ensures { λ r. ⌜ Looked (now (tag .entry)) (now (ats .entry)) (now (lens .entry)) (now (made .entry)) r (now (ats .exit)) (now (lens .exit)) (now (made .exit)) ⌝ }
 {
     let basic = basic::basic_stage(tag);
     let Stage::Passed = basic else {
-        return Look::Refused(format::stage_number(basic));
+        return Look::Refused(Refusal::Plain(format::stage_number(basic)));
     };
     let survey = chain::survey_of(tag);
     let Survey::Whole {
@@ -54,7 +55,7 @@ pub fn look_at(tag: &[u8], ats: &mut [usize; 7], lens: &mut [usize; 7], made: &m
         end,
     } = survey
     else {
-        return Look::Refused(chain::survey_number(survey));
+        return Look::Refused(chain::survey_refusal(survey));
     };
     let block = Part {
         at: library,
@@ -62,11 +63,11 @@ pub fn look_at(tag: &[u8], ats: &mut [usize; 7], lens: &mut [usize; 7], made: &m
     };
     let found = judge::find_fields(tag, block);
     let FieldsFound::Good(item, owner, fields) = found else {
-        return Look::Refused(judge::fields_number(found));
+        return Look::Refused(Refusal::Plain(judge::fields_number(found)));
     };
     let agreed = judge::agree_stage(tag, item, owner, fields);
     let Stage::Passed = agreed else {
-        return Look::Refused(format::stage_number(agreed));
+        return Look::Refused(Refusal::Plain(format::stage_number(agreed)));
     };
     row::fill_row(tag, library, item, owner, fields, ats, lens, made);
     let blocks = row::one_piece(library, length, size, end);

@@ -3,13 +3,13 @@ use mathlib.Core.Path.{_≡_, sym, ap, _∙_}
 use native.Mathlib.Omega.{arith}
 use mathlib.Core.List.{[], _∷_}
 use borrow.Author.Needs.{needs}
-use Rattle.format.specs.Answers.{got, plain, need, inOrder}
+use Rattle.format.specs.Answers.{plain, placed, got, refused, need, inOrder}
 use Rattle.format.proofs.Answers.{first-ok, first-no, next-ok, none-ok, passed-no, refused-on}
-use Rattle.format.specs.Numbers.{stageGiven}
+use Rattle.format.specs.Numbers.{stageGiven, refusalOf}
 use Rattle.format.specs.Pieces.{Held}
 use Rattle.format.specs.Chain.{libraryBlock}
 use Rattle.format.specs.Reading.{blocksIn, agree}
-use Rattle.chain.specs.Survey.{surveyNumber}
+use Rattle.chain.specs.Survey.{surveyGiven}
 use Rattle.chain.proofs.Laws.{Surveyed, survey-whole, survey-refused}
 use Rattle.look.specs.Row.{from}
 use Rattle.look.specs.Looking.{basicJudged, partsOn, fieldsGiven, FieldsOf}
@@ -27,12 +27,12 @@ at-start c = c .before .before .before .before
 begun : (c : tie.After-enum-told) → basicJudged (at-start c .args .tag .now) ≡ got tt
 begun c = sym (c .before .before .basic-stage .ensures) ∙ ap stageGiven (c .enum-told .given .1)
 
--- past 5
+-- past 15 to 19
 abbrev past-basic : tie.After-known-told → tie.After-enum-told
 past-basic c = c .before .before .before .before
 
 whole : (c : tie.After-known-told) → let g = c .before .survey .given .0 in Surveyed (at-start (past-basic c) .args .tag .now) (g .0) (g .1 .0) (g .1 .1 .0) (g .1 .1 .1 .0) (g .1 .1 .1 .1 .0)
-whole c = survey-whole _ _ _ _ _ _ (sym (c .before .before .before .survey-of .ensures) ∙ c .before .survey .given .1)
+whole c = survey-whole _ _ _ _ _ _ (sym (c .before .before .before .survey-of .ensures) ∙ ap surveyGiven (c .before .survey .given .1))
 
 block : (c : tie.After-known-told)
     → let t = at-start (past-basic c) .args .tag .now in Held t (from (c .before .survey .given .0 .0) (c .before .survey .given .0 .1 .0)) (libraryBlock (blocksIn t))
@@ -64,9 +64,9 @@ returns c =
 returns-2 : tie.Need-returns-2
 returns-2 c =
     let told = c .before .enum-told3 .given .1 in
-    let e = survey-refused _ _ (sym (c .before .before .before .survey-of .ensures) ∙ told) in
-    rw (c .survey-number .ensures ∙ ap surveyNumber told)
-    (stopped (steps.begun _ (begun (c .before .before .before .before)) ∙ first-no _ _ _ (plain _) (passed-no _ (plain _) e)))
+    let e = survey-refused _ _ (sym (c .before .before .before .survey-of .ensures) ∙ ap surveyGiven told) in
+    let out = c .survey-refusal .ensures ∙ ap (λ s. refusalOf (surveyGiven s)) told in
+    stopped (steps.begun _ (begun (c .before .before .before .before)) ∙ first-no _ _ _ (placed _ _) (passed-no _ (placed _ _) e) ∙ ap refused (sym out))
 
 returns-3 : tie.Need-returns-3
 returns-3 c =
