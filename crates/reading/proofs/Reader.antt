@@ -7,16 +7,18 @@ use lib.Dec.{leb}
 use native.Mathlib.Omega.{arith}
 use lib.ListN.{length, take, drop, length-drop}
 use lib.Seq.{length-take-le}
-use Rattle.format.specs.Answers.{Answer, refused, plain, need, afterwards}
+use Rattle.format.specs.Answers.{Answer, Refusal, refused, need, afterwards}
 use Rattle.format.specs.Bytes.{bytes, joined, part, filled}
 use Rattle.format.specs.Pages.{pageSize}
 use Rattle.format.specs.Elements.{Content, numbers, valuesAt}
 use Rattle.format.specs.Sheet.{sheetOf, entries, fitting}
 use Rattle.format.specs.Reading.{contentIn}
 use Rattle.format.specs.Calls.{sheetIn, readSteps, reading}
-use Rattle.format.specs.Numbers.{Reads}
+use Rattle.format.specs.Numbers.{refusalGiven, answerGiven, readGiven, Reads}
+use Rattle.format.specs.declared.Refusal as code
 use Rattle.format.specs.declared.NumberAnswer.{NumberAnswer}
-use Rattle.format.specs.declared.NumberAnswer.the-variants as number
+use Rattle.format.specs.declared.ReadAnswer.{ReadAnswer}
+use Rattle.format.specs.declared.ReadAnswer.the-variants as read
 use Rattle.format.proofs.Answers.{next-ok, afterwards-refused}
 use Rattle.format.proofs.Readable.{readable-on}
 use Rattle.rows.specs.Rows.{slotsAt, Row}
@@ -28,14 +30,14 @@ use Rattle.look.proofs.Laws.{Seen}
 use Rattle.render.specs.Rendering.{carriedOn, rendering, Renderable, Rendered}
 
 -- a refusal of looking is one of reading
-pub refused-reads : (t buffer : List ℕ) (k n : ℕ) → judged t ≡ refused (plain k) → n ≡ k → Reads t buffer (number.Refused n) buffer
+pub refused-reads : (t buffer : List ℕ) (x : Refusal) (r : code.Refusal) → judged t ≡ refused x → refusalGiven r ≡ x → Reads t buffer (read.Refused r) buffer
 unfolding reading readSteps
-refused-reads t buffer k n j e =
+refused-reads t buffer x r j e =
     let ss = need 14 (fitting (entries (contentIn t))) ∷ need 2 (leb (length (sheetIn t)) (length buffer)) ∷ [] in
-    let a : reading pageSize t buffer .answer ≡ refused (plain k) = steps-refused t ss (length (sheetIn t)) (plain k) j in
+    let a : reading pageSize t buffer .answer ≡ refused x = steps-refused t ss (length (sheetIn t)) x j in
     record {
-      answered = ap (λ (m : ℕ). refused (plain m)) e ∙ sym a;
-      left = sym (afterwards-refused (reading pageSize t buffer .answer) (plain k) (filled (sheetIn t) buffer) buffer a);
+      answered = ap refused e ∙ sym a;
+      left = sym (afterwards-refused (reading pageSize t buffer .answer) x (filled (sheetIn t) buffer) buffer a);
     }
 
 pub seen-carried : (t : List ℕ) → contentIn t .carried ≡ carriedOn t
@@ -75,16 +77,16 @@ module _ (t lent ats lens made : List ℕ) (v : View) (y : bytes t ≡ true) (s 
         piece = λ l. cut ∙ sighted-blocks (sym whole ∙ ap length (sym cut) ∙ l) ∙ ap joined (seen-carried t);
       }
 
-  pub rendered-reads : (buffer : List ℕ) (r : NumberAnswer) (sheet : List ℕ)
-      → Rendered (entries (record { slots = slotsAt (t ++ made) ats lens; carried = carriedOn t })) buffer r sheet → Reads t buffer r sheet
+  pub rendered-reads : (buffer : List ℕ) (r : NumberAnswer) (q : ReadAnswer) (sheet : List ℕ)
+      → Rendered (entries (record { slots = slotsAt (t ++ made) ats lens; carried = carriedOn t })) buffer r sheet → readGiven q ≡ answerGiven r → Reads t buffer q sheet
   unfolding reading readSteps
-  rendered-reads buffer r sheet d =
+  rendered-reads buffer r q sheet d i =
       let c : Content = record { slots = slotsAt (t ++ made) ats lens; carried = carriedOn t } in
       let e : c ≡ contentIn t = ap₂ (λ (ss bs : List (List ℕ)). record { slots = ss; carried = bs }) sighted-slots (sym (seen-carried t)) in
       let n : ℕ = length (sheetIn t) in
       let a : reading pageSize t buffer .answer ≡ rendering (entries c) buffer =
       next-ok _ _ _ n (seen-size t (s .seen)) ∙ readable-on t _ n (seen-readable t (s .seen)) ∙ ap (λ (x : Content). rendering (entries x) buffer) (sym e) in
       record {
-        answered = d .answered ∙ sym a;
+        answered = i ∙ d .answered ∙ sym a;
         left = d .left ∙ ap₂ (λ (m : Answer ℕ) (x : Content). afterwards m (filled (sheetOf (entries x)) buffer) buffer) (sym a) e;
       }

@@ -14,7 +14,8 @@ use Rattle.format.specs.Chain.{idOf, isLibrary}
 use Rattle.format.specs.Reading.{walked, blocksIn}
 use Rattle.format.specs.Pieces.{stored}
 use Rattle.format.proofs.Blocks.{well-facts}
-use Rattle.chain.proofs.Chain.{blockIn, before-end}
+use Rattle.format.specs.Damage.{blockAt}
+use Rattle.format.proofs.Chains.{before-end}
 use Rattle.chain.proofs.Laws.{CarriedFrom, carried-start, carried-end, carried-filler, carried-size, carried-inside, carried-well, carried-library, carried-other}
 use Rattle.render.specs.Rendering.{carriedOn}
 use Rattle.render.proofs.Storing.{Storing, storing-start, storing-end, next-room, storing-next}
@@ -26,7 +27,7 @@ short-id : (b : List ℕ) → length b ≤ 1 → idOf b ≡ 0
 unfolding word
 short-id b h = let e : getD b 1 0 ≡ 0 = List·getD-eq-default b 0 h in let f : getD b 2 0 ≡ 0 = List·getD-eq-default b 0 (omega arith) in rw (e, f)
 
-module _ (t : List ℕ) (from : ℕ) (cs : List (List ℕ)) (h : CarriedFrom t from cs) (b : List ℕ) (is : b ≡ blockIn t from) where
+module _ (t : List ℕ) (from : ℕ) (cs : List (List ℕ)) (h : CarriedFrom t from cs) (b : List ℕ) (is : b ≡ blockAt t from) where
   abbrev n : ℕ
   n = getD t from 0
 
@@ -47,7 +48,7 @@ module _ (t : List ℕ) (from : ℕ) (cs : List (List ℕ)) (h : CarriedFrom t f
     passed-over low = rw block-size (elim filler-or-block [
       | inl e ↦ rw e (carried-filler t from cs h e)
       | inr two ↦
-          let named : idOf b ≡ 0 → ⊥ = eqb-false (idOf b) 0 (ap (λ (x : List ℕ). eqb (idOf x) 0) is ∙ well-facts (blockIn t from) (carried-well t from cs h two) .named) in
+          let named : idOf b ≡ 0 → ⊥ = eqb-false (idOf b) 0 (ap (λ (x : List ℕ). eqb (idOf x) 0) is ∙ well-facts (blockAt t from) (carried-well t from cs h two) .id-there) in
           let one : idOf b ≡ 1 = omega arith in
           carried-library t from cs h two (sym (ap isLibrary is) ∙ eq-eqb (idOf b) 1 one)
     ])
@@ -72,7 +73,7 @@ pub carrying-start : (t : List ℕ) {before : List ℕ} {start : ℕ} {whole : L
 carrying-start t rest w e h = record { left = carriedOn t; walks = carried-start t w; storing = storing-start (rest (carriedOn t)) e h }
 
 module _ {t before : List ℕ} {start : ℕ} {whole : List ℕ} {rest : List (List ℕ) → List (List ℕ)} {out : List ℕ} {from at : ℕ} {b : List ℕ}
-    (c : Carrying t before start whole rest out from at) (is : b ≡ blockIn t from) where
+    (c : Carrying t before start whole rest out from at) (is : b ≡ blockAt t from) where
   pub carrying-size : length b ≡ getD t from 0
   carrying-size = block-size t from (c .left) (c .walks) b is
 

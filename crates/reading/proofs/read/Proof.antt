@@ -1,11 +1,12 @@
 -- `reading::read` passes the refusal of looking on, or renders what was seen.
-use mathlib.Core.Path.{_≡_, refl, ap, _∙_}
+use mathlib.Core.Path.{_≡_, refl, sym, ap, _∙_}
 use Prim.Native.Nat.{_+_, _≤_}
 use mathlib.Core.Bool.{true}
 use native.Mathlib.Omega.{arith}
 use lib.ListN.{length, replicate}
 use Rattle.format.specs.Bytes.{bytes}
-use Rattle.format.specs.Numbers.{numberOf}
+use Rattle.format.specs.Answers.{plain, refused}
+use Rattle.format.specs.Numbers.{answerGiven, refusalOf, numberOf}
 use Rattle.format.proofs.Tests.{bytes-all}
 use Rattle.look.specs.View.{lookGiven, Sighted}
 use Rattle.look.proofs.Judged.{looked-sighted, looked-refused}
@@ -24,8 +25,8 @@ enum-known-looked c = search needs
 enum-told : tie.Need-enum-told
 enum-told c = search needs
 
-look-number-requires : tie.Need-look-number-requires
-look-number-requires c κs = search needs
+look-refusal-requires : tie.Need-look-refusal-requires
+look-refusal-requires c κs = search needs
 
 -- the call, from where the tag has been looked at
 abbrev at-start : tie.After-look-at → tie.Start
@@ -36,7 +37,7 @@ returns c =
     let k = c .before .before .before in
     let a = at-start k .args in
     let told = c .before .enum-told .given .1 in
-    refused-reads (a .tag .now) (a .sheet .now) _ _ (looked-refused _ _ _ _ _ _ _ _ (k .look-at .ensures) _ told) (c .look-number .ensures ∙ ap (λ l. numberOf (lookGiven l)) told)
+    refused-reads (a .tag .now) (a .sheet .now) _ _ (looked-refused _ _ _ _ _ _ _ _ (k .look-at .ensures) _ told) (c .look-refusal .ensures ∙ ap (λ l. refusalOf (lookGiven l)) told)
 
 -- what was seen
 abbrev at-look : tie.After-looked → tie.After-look-at
@@ -75,6 +76,15 @@ render-requires c κs =
     let k = c .before .before .before .before .before .before .before .before in
     sighted-renderable _ _ _ _ _ _ (tag-bytes k) (sighted k) (seen k)
 
+enum-known-rendered : tie.Need-enum-known-rendered
+enum-known-rendered c = search needs
+
+enum-told-2 : tie.Need-enum-told-2
+enum-told-2 c = search needs
+
+answer-number-requires : tie.Need-answer-number-requires
+answer-number-requires c κs = search needs
+
 same-length : tie.Need-same-length
 same-length c = search needs
 
@@ -83,8 +93,20 @@ at-seen r = r .before .before .before .before .before .before .before .before .b
 
 returns-2 : tie.Need-returns-2
 returns-2 c =
-    let k = at-seen (c .before .before) in
-    rendered-reads _ _ _ _ _ _ (tag-bytes k) (sighted k) (seen k) _ _ _ (c .before .before .render .ensures)
+    let r = c .before .before .before .before .before in
+    let k = at-seen r in
+    let told = c .before .enum-told2 .given .1 in
+    rendered-reads _ _ _ _ _ _ (tag-bytes k) (sighted k) (seen k) _ _ _ _ (r .render .ensures)
+    (ap (λ j. refused (plain j)) (c .answer-number .ensures ∙ ap (λ a. numberOf (answerGiven a)) told) ∙ sym (ap answerGiven told))
+
+same-length-2 : tie.Need-same-length-2
+same-length-2 c = search needs
+
+returns-3 : tie.Need-returns-3
+returns-3 c =
+    let r = c .before .before .before .before .before in
+    let k = at-seen r in
+    rendered-reads _ _ _ _ _ _ (tag-bytes k) (sighted k) (seen k) _ _ _ _ (r .render .ensures) (sym (ap answerGiven (c .before .rendered .given .1)))
 
 pub read-spec : {M : Type 1} → statement M
 read-spec =
@@ -93,7 +115,7 @@ read-spec =
     look-at-requires
     enum-known-looked
     enum-told
-    look-number-requires
+    look-refusal-requires
     returns
     add-end
     slice-aggregate-render
@@ -101,5 +123,10 @@ read-spec =
     part-render-start
     part-render-end
     render-requires
+    enum-known-rendered
+    enum-told-2
+    answer-number-requires
     same-length
-    returns-2)
+    returns-2
+    same-length-2
+    returns-3)
