@@ -15,6 +15,7 @@ use Rattle.format.specs.Layout.{image, fits}
 use Rattle.format.specs.Reading.{contentIn}
 use Rattle.format.specs.Calls.{ownLayout}
 use Rattle.format.specs.Numbers.{stageGiven, Edits}
+use Rattle.format.specs.declared.Refusal.the-variants as refusal
 use Rattle.format.specs.declared.EditAnswer.the-variants as edit
 use Rattle.format.specs.declared.Part.{Part}
 use Rattle.format.specs.declared.Stage.{Stage}
@@ -137,7 +138,7 @@ module _ (t locks : List ℕ) (n : ℕ) (s buffer ats lens seen : List ℕ) (v :
       drafted : stageGiven r ≡ drafting (length t) (edited .slots) (joined (edited .carried))
       drafted = q .answered ∙ rw (f .long, slots-are, pieced)
 
-      pub drafted-refused : (i m : ℕ) → stageGiven r ≡ refused (plain i) → m ≡ i → Edits t locks n s buffer (edit.Refused m) t buffer
+      pub drafted-refused : (i m : ℕ) → stageGiven r ≡ refused (plain i) → m ≡ i → Edits t locks n s buffer (edit.Refused (refusal.Plain m)) t buffer
       drafted-refused i m e w = draft-edits t locks n s buffer (k .sized) (k .sighted .seen) (k .own) (k .valued) i m (sym drafted ∙ e) w
 
       -- ---- sealed, and judged by the locks
@@ -162,7 +163,7 @@ module _ (t locks : List ℕ) (n : ℕ) (s buffer ats lens seen : List ℕ) (v :
           judged : stageGiven u ≡ need 12 (eqb (lockedChanged pageSize locks t (image (length t) edited)) 0)
           judged = l ∙ lock-step pageSize d₂ t long locks ∙ ap (λ (x : List ℕ). need 12 (eqb (lockedChanged pageSize locks t x) 0)) sealed
 
-          pub locked-refused : (i m : ℕ) → stageGiven u ≡ refused (plain i) → m ≡ i → Edits t locks n s buffer (edit.Refused m) t buffer
+          pub locked-refused : (i m : ℕ) → stageGiven u ≡ refused (plain i) → m ≡ i → Edits t locks n s buffer (edit.Refused (refusal.Plain m)) t buffer
           locked-refused i m e x = lock-edits t locks n s buffer (k .sized) (k .sighted .seen) (k .own) (k .valued) passed i m (sym judged ∙ e) x
 
           -- ---- and stored

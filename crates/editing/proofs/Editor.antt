@@ -7,14 +7,16 @@ use mathlib.Core.List.{List, [], _∷_, _++_}
 use lib.Dec.{eqb, leb}
 use lib.ListN.{length}
 use borrow.Author.Tests.{leb-true}
-use Rattle.format.specs.Answers.{got, refused, plain, Step, need, inOrder}
+use Rattle.format.specs.Answers.{Refusal, plain, got, refused, Step, need, inOrder}
 use Rattle.format.specs.Bytes.{bytes, joined, filled}
 use Rattle.format.specs.Pages.{pageSize, goodSize, lockMap, changed, lockedChanged}
 use Rattle.format.specs.Elements.{Content, el, put, known, value}
 use Rattle.format.specs.Layout.{image}
 use Rattle.format.specs.Reading.{contentIn, tagSteps}
 use Rattle.format.specs.Calls.{layingSteps, ownLayout, editSteps, Edited, editing}
-use Rattle.format.specs.Numbers.{Edits}
+use Rattle.format.specs.Numbers.{refusalGiven, Edits}
+use Rattle.format.specs.declared.Refusal as code
+use Rattle.format.specs.declared.Refusal.the-variants as refusal
 use Rattle.format.specs.declared.EditAnswer.the-variants as edit
 use Rattle.format.proofs.Tests.{and-l, and-r}
 use Rattle.format.proofs.Answers.{first-no, next-ok, next-inv, refused-on, passed-on, afterwards-got, afterwards-refused}
@@ -49,25 +51,29 @@ module _ (t locks : List ℕ) (n : ℕ) (s buffer : List ℕ) where
 
   -- ---- refusals
 
-  refused-edits : (k m : ℕ) → editing pageSize t locks n s buffer .answer ≡ refused (plain k) → m ≡ k → Edits t locks n s buffer (edit.Refused m) t buffer
+  refused-edits : (x : Refusal) (r : code.Refusal) → editing pageSize t locks n s buffer .answer ≡ refused x → refusalGiven r ≡ x → Edits t locks n s buffer (edit.Refused r) t buffer
   unfolding editing
-  refused-edits k m a e = record {
-    answered = ap (λ (j : ℕ). refused (plain j)) e ∙ sym a;
-    left = sym (afterwards-refused (editing pageSize t locks n s buffer .answer) (plain k) _ t a);
-    handed = sym (afterwards-refused (editing pageSize t locks n s buffer .answer) (plain k) _ buffer a);
+  refused-edits x r a e = record {
+    answered = ap refused e ∙ sym a;
+    left = sym (afterwards-refused (editing pageSize t locks n s buffer .answer) x _ t a);
+    handed = sym (afterwards-refused (editing pageSize t locks n s buffer .answer) x _ buffer a);
   }
 
-  pub size-edits : (k m : ℕ) → need 1 sized ≡ refused (plain k) → m ≡ k → Edits t locks n s buffer (edit.Refused m) t buffer
+  -- with its number alone
+  number-edits : (k m : ℕ) → editing pageSize t locks n s buffer .answer ≡ refused (plain k) → m ≡ k → Edits t locks n s buffer (edit.Refused (refusal.Plain m)) t buffer
+  number-edits k m a e = refused-edits (plain k) (refusal.Plain m) a (ap plain e)
+
+  pub size-edits : (k m : ℕ) → need 1 sized ≡ refused (plain k) → m ≡ k → Edits t locks n s buffer (edit.Refused (refusal.Plain m)) t buffer
   unfolding editing editSteps
-  size-edits k m r e = refused-edits k m (first-no (need 1 sized) _ _ (plain k) r) e
+  size-edits k m r e = number-edits k m (first-no (need 1 sized) _ _ (plain k) r) e
 
   module _ (z : Sized t locks) where
-    pub look-edits : (k m : ℕ) → judged t ≡ refused (plain k) → m ≡ k → Edits t locks n s buffer (edit.Refused m) t buffer
+    pub look-edits : (x : Refusal) (r : code.Refusal) → judged t ≡ refused x → refusalGiven r ≡ x → Edits t locks n s buffer (edit.Refused r) t buffer
     unfolding editing editSteps
-    look-edits k m j e =
+    look-edits x r j e =
         let g = and-l (goodSize pageSize (length t)) (lockMap pageSize locks (length t)) z in
-        let r : inOrder {A = Unit {0}} (tagSteps t) tt ≡ refused (plain k) = sym (next-ok 1 (goodSize pageSize (length t)) (tagSteps t) tt g) ∙ j in
-        refused-edits k m (next-ok 1 sized _ _ z ∙ refused-on (tagSteps t) _ tt _ (plain k) r) e
+        let f : inOrder {A = Unit {0}} (tagSteps t) tt ≡ refused x = sym (next-ok 1 (goodSize pageSize (length t)) (tagSteps t) tt g) ∙ j in
+        refused-edits x r (next-ok 1 sized _ _ z ∙ refused-on (tagSteps t) _ tt _ x f) e
 
     -- ---- a tag that was seen
 
@@ -76,12 +82,12 @@ module _ (t locks : List ℕ) (n : ℕ) (s buffer : List ℕ) where
       unfolding editing editSteps
       seen-answer = next-ok 1 sized _ given z ∙ readable-on t _ given (seen-readable t j)
 
-      pub own-edits : (k m : ℕ) → need 13 (ownLayout t) ≡ refused (plain k) → m ≡ k → Edits t locks n s buffer (edit.Refused m) t buffer
-      own-edits k m r e = refused-edits k m (seen-answer ∙ first-no (need 13 (ownLayout t)) _ _ (plain k) r) e
+      pub own-edits : (k m : ℕ) → need 13 (ownLayout t) ≡ refused (plain k) → m ≡ k → Edits t locks n s buffer (edit.Refused (refusal.Plain m)) t buffer
+      own-edits k m r e = number-edits k m (seen-answer ∙ first-no (need 13 (ownLayout t)) _ _ (plain k) r) e
 
       module _ (o : ownLayout t ≡ true) where
-        pub value-edits : (k m : ℕ) → inOrder {A = Unit {0}} (valueSteps n s (length buffer)) tt ≡ refused (plain k) → m ≡ k → Edits t locks n s buffer (edit.Refused m) t buffer
-        value-edits k m r e = refused-edits k m (seen-answer ∙ next-ok 13 (ownLayout t) _ _ o ∙ refused-on (valueSteps n s (length buffer)) _ tt given (plain k) r) e
+        pub value-edits : (k m : ℕ) → inOrder {A = Unit {0}} (valueSteps n s (length buffer)) tt ≡ refused (plain k) → m ≡ k → Edits t locks n s buffer (edit.Refused (refusal.Plain m)) t buffer
+        value-edits k m r e = number-edits k m (seen-answer ∙ next-ok 13 (ownLayout t) _ _ o ∙ refused-on (valueSteps n s (length buffer)) _ tt given (plain k) r) e
 
         -- ---- the rest is laying down
 
@@ -105,17 +111,17 @@ module _ (t locks : List ℕ) (n : ℕ) (s buffer : List ℕ) where
           reached : editing pageSize t locks n s buffer .answer ≡ inOrder (layingSteps pageSize locks t edited) given
           reached = seen-answer ∙ next-ok 13 (ownLayout t) _ _ o ∙ passed-on (valueSteps n s (length buffer)) _ tt tt given p
 
-          pub draft-edits : (k m : ℕ) → drafting (length t) (edited .slots) (joined (edited .carried)) ≡ refused (plain k) → m ≡ k → Edits t locks n s buffer (edit.Refused m) t buffer
+          pub draft-edits : (k m : ℕ) → drafting (length t) (edited .slots) (joined (edited .carried)) ≡ refused (plain k) → m ≡ k → Edits t locks n s buffer (edit.Refused (refusal.Plain m)) t buffer
           unfolding drafting
-          draft-edits k m d e = refused-edits k m (reached ∙ draft-refused pageSize locks t edited _ (plain k) d) e
+          draft-edits k m d e = number-edits k m (reached ∙ draft-refused pageSize locks t edited _ (plain k) d) e
 
           module _ (d : drafting (length t) (edited .slots) (joined (edited .carried)) ≡ got tt) where
             abbrev unlocks : Step
             unlocks = need 12 (eqb (lockedChanged pageSize locks t new) 0)
 
-            pub lock-edits : (k m : ℕ) → unlocks ≡ refused (plain k) → m ≡ k → Edits t locks n s buffer (edit.Refused m) t buffer
+            pub lock-edits : (k m : ℕ) → unlocks ≡ refused (plain k) → m ≡ k → Edits t locks n s buffer (edit.Refused (refusal.Plain m)) t buffer
             unfolding drafting
-            lock-edits k m l e = refused-edits k m (reached ∙ lock-refused pageSize locks t edited _ d (plain k) l) e
+            lock-edits k m l e = number-edits k m (reached ∙ lock-refused pageSize locks t edited _ d (plain k) l) e
 
             pub done-edits : unlocks ≡ got tt → (k len : ℕ) (tag old : List ℕ) → k ≡ changed pageSize t new → len ≡ length (el c n) → tag ≡ new → old ≡ filled (el c n) buffer
                 → Edits t locks n s buffer (edit.Done k len) tag old

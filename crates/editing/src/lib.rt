@@ -1,6 +1,7 @@
 // Editing one element on a tag.
 use format::EditAnswer;
 use format::Part;
+use format::Refusal;
 use format::Stage;
 use look::Look;
 use look::View;
@@ -19,15 +20,14 @@ ghost use Rattle.image.specs.Drafting.{Fresh};
 ghost use Rattle.editing.specs.Editing.{Sized};
 
 // Edits one element of a tag: no bytes means remove. The count of pages changed and the old element's length, just that much of the
-// old-element buffer filled, and the tag is the writer's own layout of the edited elements; or the number of the refusal, and nothing
-// changed.
+// old-element buffer filled, and the tag is the writer's own layout of the edited elements; or the refusal, and nothing changed.
 pub fn edit(tag: &mut [u8], locks: &[u8], number: u32, bytes: &[u8], old: &mut [u8]) -> EditAnswer
     ensures { λ r. ⌜ Edits (now (tag .entry)) (now (locks .entry)) number (now (bytes .entry)) (now (old .entry)) r (now (tag .exit)) (now (old .exit)) ⌝ }
 {
     let n = tag.len();
     let sized = pages::size_stage(n, locks);
     let Stage::Passed = sized else {
-        return EditAnswer::Refused(format::stage_number(sized));
+        return EditAnswer::Refused(Refusal::Plain(format::stage_number(sized)));
     };
     // a short draft for a short tag, as in writing
     if n <= 256 {
@@ -127,15 +127,15 @@ fn edit_on(
     let mut seen = [0u8; 19];
     let looked = look::look_at(tag, &mut ats, &mut lens, &mut seen);
     let Look::Seen(view) = looked else {
-        return EditAnswer::Refused(look::look_number(looked));
+        return EditAnswer::Refused(look::look_refusal(looked));
     };
     let own = own_stage(tag, &seen, &ats, &lens, view, draft);
     let Stage::Passed = own else {
-        return EditAnswer::Refused(format::stage_number(own));
+        return EditAnswer::Refused(Refusal::Plain(format::stage_number(own)));
     };
     let valued = value_stage(old.len(), number, bytes);
     let Stage::Passed = valued else {
-        return EditAnswer::Refused(format::stage_number(valued));
+        return EditAnswer::Refused(Refusal::Plain(format::stage_number(valued)));
     };
     // the new bytes, at most 255, stand behind what was made of the tag
     let mut made = [0u8; 274];
@@ -147,12 +147,12 @@ fn edit_on(
     let held = &tag[..];
     let drafted = image::draft(held, &made, &ats, &lens, &held[from..end], draft);
     let Stage::Passed = drafted else {
-        return EditAnswer::Refused(format::stage_number(drafted));
+        return EditAnswer::Refused(Refusal::Plain(format::stage_number(drafted)));
     };
     image::seal(draft);
     let unlocked = pages::lock_stage(draft, tag, locks);
     let Stage::Passed = unlocked else {
-        return EditAnswer::Refused(format::stage_number(unlocked));
+        return EditAnswer::Refused(Refusal::Plain(format::stage_number(unlocked)));
     };
     let length = bytes::copy(rows::piece(tag, &made, was.at, was.len), old);
     let pages = pages::store(draft, tag);

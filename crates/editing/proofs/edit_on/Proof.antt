@@ -6,7 +6,7 @@ use native.Mathlib.Omega.{arith}
 use lib.ListN.{length, replicate}
 use Rattle.format.specs.Bytes.{bytes}
 use Rattle.format.specs.Calls.{ownLayout}
-use Rattle.format.specs.Numbers.{numberOf, stageGiven}
+use Rattle.format.specs.Numbers.{refusalOf, numberOf, stageGiven}
 use Rattle.format.proofs.Tests.{bytes-all}
 use Rattle.format.proofs.Answers.{need-inv}
 use Rattle.look.specs.View.{lookGiven, Sighted}
@@ -35,14 +35,14 @@ enum-known-looked c = search needs
 enum-told : tie.Need-enum-told
 enum-told c = search needs
 
-look-number-requires : tie.Need-look-number-requires
-look-number-requires c κs = search needs
+look-refusal-requires : tie.Need-look-refusal-requires
+look-refusal-requires c κs = search needs
 
 returns : tie.Need-returns
 returns c =
     let k = c .before .before .before in
     let told = c .before .enum-told .given .1 in
-    look-edits _ _ _ _ _ (at-start k .pre .1) _ _ (looked-refused _ _ _ _ _ _ _ _ (k .look-at .ensures) _ told) (c .look-number .ensures ∙ ap (λ l. numberOf (lookGiven l)) told)
+    look-edits _ _ _ _ _ (at-start k .pre .1) _ _ (looked-refused _ _ _ _ _ _ _ _ (k .look-at .ensures) _ told) (c .look-refusal .ensures ∙ ap (λ l. refusalOf (lookGiven l)) told)
 
 abbrev at-look : tie.After-looked → tie.After-look-at
 at-look k = k .before .before
@@ -324,7 +324,7 @@ edit-on-spec =
     look-at-requires
     enum-known-looked
     enum-told
-    look-number-requires
+    look-refusal-requires
     same-length
     returns
     slice-aggregate-own-stage
