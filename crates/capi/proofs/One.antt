@@ -5,10 +5,10 @@ use mathlib.Core.List.{List}
 use Rattle.format.specs.Numbers.{ReadsC, WritesC, EditsC}
 use Rattle.format.proofs.Promises.{c-reads-one, c-writes-one, c-edits-one}
 
-pub urp-read-one : (tag sheet : List ℕ) (used r r₂ : ℕ) (sheet′ sheet₂ : List ℕ) (used′ used₂ : ℕ)
-    → ReadsC tag sheet used r sheet′ used′
-    → ReadsC tag sheet used r₂ sheet₂ used₂
-    → (r ≡ r₂) × (sheet′ ≡ sheet₂) × (used′ ≡ used₂)
+pub urp-read-one : (tag sheet : List ℕ) (used place r r₂ : ℕ) (sheet′ sheet₂ : List ℕ) (used′ used₂ place′ place₂ : ℕ)
+    → ReadsC tag sheet used place r sheet′ used′ place′
+    → ReadsC tag sheet used place r₂ sheet₂ used₂ place₂
+    → (r ≡ r₂) × (sheet′ ≡ sheet₂) × (used′ ≡ used₂) × (place′ ≡ place₂)
 urp-read-one = c-reads-one
 
 pub urp-write-one : (sheet tag locks : List ℕ) (pages r r₂ : ℕ) (tag′ tag₂ : List ℕ) (pages′ pages₂ : ℕ)
@@ -17,8 +17,8 @@ pub urp-write-one : (sheet tag locks : List ℕ) (pages r r₂ : ℕ) (tag′ ta
     → (r ≡ r₂) × (tag′ ≡ tag₂) × (pages′ ≡ pages₂)
 urp-write-one = c-writes-one
 
-pub urp-edit-one : (tag locks : List ℕ) (number : ℕ) (value old : List ℕ) (pages used r r₂ : ℕ) (tag′ tag₂ old′ old₂ : List ℕ) (pages′ pages₂ used′ used₂ : ℕ)
-    → EditsC tag locks number value old pages used r tag′ old′ pages′ used′
-    → EditsC tag locks number value old pages used r₂ tag₂ old₂ pages₂ used₂
-    → (r ≡ r₂) × (tag′ ≡ tag₂) × (old′ ≡ old₂) × (pages′ ≡ pages₂) × (used′ ≡ used₂)
+pub urp-edit-one : (tag locks : List ℕ) (number : ℕ) (value old : List ℕ) (pages used place r r₂ : ℕ) (tag′ tag₂ old′ old₂ : List ℕ) (pages′ pages₂ used′ used₂ place′ place₂ : ℕ)
+    → EditsC tag locks number value old pages used place r tag′ old′ pages′ used′ place′
+    → EditsC tag locks number value old pages used place r₂ tag₂ old₂ pages₂ used₂ place₂
+    → (r ≡ r₂) × (tag′ ≡ tag₂) × (old′ ≡ old₂) × (pages′ ≡ pages₂) × (used′ ≡ used₂) × (place′ ≡ place₂)
 urp-edit-one = c-edits-one

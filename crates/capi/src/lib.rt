@@ -1,30 +1,55 @@
 // The calls that a C host links: `include/urpanella.h` documents them. Each takes the answer of reading, writing or editing apart and does nothing else.
 use format::EditAnswer;
 use format::NumberAnswer;
+use format::ReadAnswer;
+use format::Refusal;
 ghost use mathlib.Core.Path.{_≡_};
-ghost use Rattle.format.specs.Numbers.{ReadsC, WritesC, EditsC, numberOf, editGiven};
+ghost use Rattle.format.specs.Numbers.{refusalGiven, readGiven, editGiven, refusalOf, refusalNumber, refusalPlace, ReadsC, WritesC, EditsC};
 
 // What a call returns whose work is done.
 const DONE: u32 = 0;
 
-// The number of a refusal, 0 for none.
-fn edit_number(answer: EditAnswer) -> u32
-    ensures { λ r. ⌜ r ≡ numberOf (editGiven answer) ⌝ }
+// The refusal of reading, number 0 for none.
+fn read_refusal(answer: ReadAnswer) -> Refusal
+    ensures { λ r. ⌜ refusalGiven r ≡ refusalOf (readGiven answer) ⌝ }
 {
     match answer {
-        EditAnswer::Done { pages: _, old: _ } => 0,
-        EditAnswer::Refused(k) => k,
+        ReadAnswer::Done(_) => Refusal::Plain(0),
+        ReadAnswer::Refused(refusal) => refusal,
     }
 }
 
-// Reads a tag into a sheet. `used` becomes the sheet's length.
+// The refusal of editing, number 0 for none.
+fn edit_refusal(answer: EditAnswer) -> Refusal
+    ensures { λ r. ⌜ refusalGiven r ≡ refusalOf (editGiven answer) ⌝ }
+{
+    match answer {
+        EditAnswer::Done { pages: _, old: _ } => Refusal::Plain(0),
+        EditAnswer::Refused(refusal) => refusal,
+    }
+}
+
+// The number of a refusal. `place` becomes its place; without one, it stays as it is.
+fn tell(refusal: Refusal, place: &mut usize) -> u32
+    ensures { λ r. ⌜ (r ≡ refusalNumber (refusalGiven refusal)) × (now (place .exit) ≡ refusalPlace (refusalGiven refusal) (now (place .entry))) ⌝ }
+{
+    match refusal {
+        Refusal::Plain(number) => number,
+        Refusal::Placed { number, place: at } => {
+            *place = at;
+            number
+        }
+    }
+}
+
+// Reads a tag into a sheet. `used` becomes the sheet's length; or, where the tag is damaged, `place` the byte where the damaged block begins.
 #[no_mangle]
-pub extern "C" fn urp_read(tag: &[u8], sheet: &mut [u8], used: &mut usize) -> u32
-    ensures { λ r. ⌜ ReadsC (now (tag .entry)) (now (sheet .entry)) (now (used .entry)) r (now (sheet .exit)) (now (used .exit)) ⌝ }
+pub extern "C" fn urp_read(tag: &[u8], sheet: &mut [u8], used: &mut usize, place: &mut usize) -> u32
+    ensures { λ r. ⌜ ReadsC (now (tag .entry)) (now (sheet .entry)) (now (used .entry)) (now (place .entry)) r (now (sheet .exit)) (now (used .exit)) (now (place .exit)) ⌝ }
 {
     let answer = reading::read(tag, sheet);
-    let NumberAnswer::Done(length) = answer else {
-        return format::answer_number(answer);
+    let ReadAnswer::Done(length) = answer else {
+        return tell(read_refusal(answer), place);
     };
     *used = length;
     DONE
@@ -43,7 +68,7 @@ pub extern "C" fn urp_write(sheet: &[u8], tag: &mut [u8], locks: &[u8], pages: &
     DONE
 }
 
-// Edits one element of a tag. `pages` becomes the count of pages changed, `used` the old element's length.
+// Edits one element of a tag. `pages` becomes the count of pages changed, `used` the old element's length; `place` as for `urp_read`.
 #[no_mangle]
 pub extern "C" fn urp_edit(
     tag: &mut [u8],
@@ -53,8 +78,9 @@ pub extern "C" fn urp_edit(
     old: &mut [u8],
     pages: &mut usize,
     used: &mut usize,
+    place: &mut usize,
 ) -> u32
-    ensures { λ r. ⌜ EditsC (now (tag .entry)) (now (locks .entry)) number (now (value .entry)) (now (old .entry)) (now (pages .entry)) (now (used .entry)) r (now (tag .exit)) (now (old .exit)) (now (pages .exit)) (now (used .exit)) ⌝ }
+    ensures { λ r. ⌜ EditsC (now (tag .entry)) (now (locks .entry)) number (now (value .entry)) (now (old .entry)) (now (pages .entry)) (now (used .entry)) (now (place .entry)) r (now (tag .exit)) (now (old .exit)) (now (pages .exit)) (now (used .exit)) (now (place .exit)) ⌝ }
 {
     let answer = editing::edit(tag, locks, number, value, old);
     let EditAnswer::Done {
@@ -62,7 +88,7 @@ pub extern "C" fn urp_edit(
         old: length,
     } = answer
     else {
-        return edit_number(answer);
+        return tell(edit_refusal(answer), place);
     };
     *pages = count;
     *used = length;

@@ -84,17 +84,24 @@ abbrev pub refusalOf : {A : Type 0} → Answer A → Refusal
 refusalOf (got a) = plain 0
 refusalOf (refused x) = x
 
+-- its number, and its place behind a pointer: without one, what stood there
+abbrev pub refusalNumber : Refusal → ℕ
+refusalNumber (plain k) = k
+refusalNumber (placed k p) = k
+
+abbrev pub refusalPlace : Refusal → ℕ → ℕ
+refusalPlace (plain k) before = before
+refusalPlace (placed k p) before = p
+
 -- for a C host: 0 when the work is done, else the number of the refusal
 abbrev pub numberOf : {A : Type 0} → Answer A → ℕ
 numberOf (got a) = 0
-numberOf (refused (plain k)) = k
-numberOf (refused (placed k p)) = k
+numberOf (refused x) = refusalNumber x
 
--- the place behind a pointer: that of the damage, or at any other answer what stood there
+-- the place of damage, at any other answer what stood there
 abbrev pub placeOf : {A : Type 0} → Answer A → ℕ → ℕ
-placeOf (refused (placed k p)) before = p
-placeOf (refused (plain k)) before = before
 placeOf (got a) before = before
+placeOf (refused x) before = refusalPlace x before
 
 -- and a result behind a pointer: the value, or at a refusal what stood there
 abbrev pub resultOf : {A : Type 0} → (A → ℕ) → Answer A → ℕ → ℕ

@@ -1,7 +1,7 @@
 -- `urp_edit` takes the answer apart: the number and the results are what the call's contract says.
 use mathlib.Core.Path.{sym, ap, _∙_}
-use Rattle.format.specs.Numbers.{numberOf, editGiven}
-use Rattle.capi.proofs.Given.{result-got, result-refused}
+use Rattle.format.specs.Numbers.{editGiven, refusalOf, numberOf}
+use Rattle.capi.proofs.Given.{result-got, result-refused, place-got, number-told, place-told}
 use borrow.Author.Needs.{needs}
 use Rattle.capi.proofs.urp_edit.Statement.{statement}
 use Rattle.capi.proofs.urp_edit.Tie as tie
@@ -15,8 +15,11 @@ enum-known-answer c = search needs
 enum-told : tie.Need-enum-told
 enum-told c = search needs
 
-edit-number-requires : tie.Need-edit-number-requires
-edit-number-requires c κs = search needs
+edit-refusal-requires : tie.Need-edit-refusal-requires
+edit-refusal-requires c κs = search needs
+
+tell-requires : tie.Need-tell-requires
+tell-requires c κs = search needs
 
 same-length : tie.Need-same-length
 same-length c = search needs
@@ -26,14 +29,17 @@ same-length-2 c = search needs
 
 returns : tie.Need-returns
 returns c =
-    let e = c .before .before .before .before .before .before .before .edit .ensures in
-    let told = sym (e .answered) ∙ ap editGiven (c .before .enum-told .given .1) in
+    let e = c .before .before .before .before .before .before .before .before .before .edit .ensures in
+    let given = ap editGiven (c .before .before .before .enum-told .given .1) in
+    let told = sym (e .answered) ∙ given in
+    let out = c .before .before .edit-refusal .ensures ∙ ap refusalOf given in
     record {
-      answered = c .edit-number .ensures ∙ ap numberOf (e .answered);
+      answered = number-told _ _ _ _ told out (c .tell .ensures .0);
       left = e .left;
       handed = e .handed;
       result = result-refused _ _ _ _ told;
       old-length = result-refused _ _ _ _ told;
+      at-place = place-told _ _ _ _ _ told out (c .tell .ensures .1);
     }
 
 same-length-3 : tie.Need-same-length-3
@@ -52,6 +58,7 @@ returns-2 c =
       handed = e .handed;
       result = result-got _ _ _ _ told;
       old-length = result-got _ _ _ _ told;
+      at-place = place-got _ _ _ told;
     }
 
 pub urp-edit-spec : {M : Type 1} → statement M
@@ -61,7 +68,8 @@ urp-edit-spec =
     edit-requires
     enum-known-answer
     enum-told
-    edit-number-requires
+    edit-refusal-requires
+    tell-requires
     same-length
     same-length-2
     returns
