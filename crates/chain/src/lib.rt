@@ -78,7 +78,10 @@ pub enum Survey {
         end: usize,
     },
     // The number of the damage, 15 to 19, and the place where the damaged block begins.
-    Damaged { number: u32, place: usize },
+    Damaged {
+        number: u32,
+        place: usize,
+    },
 }
 
 // A block's ID, low byte first; a byte that the block lacks counts as 00.

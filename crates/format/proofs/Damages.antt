@@ -93,7 +93,7 @@ found t (suc f) p seen x h r e = go (eqb n 0) refl (eqb n 1) refl (found t f)
         let two : 2 ≤ n = some-block n ey ez in
         elim (then-refused (damageOf p seen b) (λ _. andThen more λ bs. got (b ∷ bs)) x (sym (block-at t p seen two) ∙ e)) [
           | inl d ↦ let g = damage-gives p seen b x d in
-          (g .0, p, g .1, record { seen = seen; reached = r; begins = two; broken = refused-first (placed (g .0) p) (damageSteps p seen b) tt (d ∙ ap refused (g .1)) })
+              (g .0, p, g .1, record { seen = seen; reached = r; begins = two; broken = refused-first (placed (g .0) p) (damageSteps p seen b) tt (d ∙ ap refused (g .1)) })
           | inr d ↦ elim (then-refused more (λ bs. got (b ∷ bs)) x (d .2)) [
             | inl m ↦ ih (p + n) (isLibrary b || seen) x (omega arith) (block r two (worked (damageSteps p seen b) tt (d .0) (d .1) .0)) m
             | inr m ↦ never (cc (m .2))

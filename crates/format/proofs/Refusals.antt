@@ -106,8 +106,8 @@ edit-spoilt p room t locks n s a k at e =
     let h = place-past _ _ _ a k at e in (
       h .0,
       on-spoilt t _ a k at
-      (no-place (alone 13 ∷ alone 2 ∷ alone 9 ∷ alone 10 ∷ alone 11 ∷ alone 12 ∷ []) _ a k at refl (test 13 _ (test 2 _ (test 9 _ (test 10 _ (test 11 _ (test 12 _ none)))))))
-      (h .1),
+          (no-place (alone 13 ∷ alone 2 ∷ alone 9 ∷ alone 10 ∷ alone 11 ∷ alone 12 ∷ []) _ a k at refl (test 13 _ (test 2 _ (test 9 _ (test 10 _ (test 11 _ (test 12 _ none)))))))
+          (h .1),
     )
 
 -- ---- what a C host finds

@@ -1,5 +1,5 @@
 -- Worked examples of what is printed, under a single statement that is computed: the whole case of document 01, the published example B.2
--- of the standard, a tag of 00 bytes, no input, and a byte too many.
+-- of the standard, a tag of 00 bytes, no input, a byte too many, and a damaged tag.
 use mathlib.Core.Path.{_≡_, refl}
 use Prim.Native.Nat.{ℕ}
 use mathlib.Core.List.{List, [], _∷_, _++_}
@@ -14,7 +14,7 @@ use Rattle.format.specs.Elements.{numbers}
 use Rattle.format.specs.Sheet.{heads, bodies, sheetOf, offsetsFit, entriesAt, carriedEntries, entries}
 use Rattle.format.specs.Reading.{goodFields, agree, ownerOn, contentIn, tagSteps}
 use Rattle.format.specs.Calls.{readSteps}
-use Rattle.listing.specs.Listing.{digits, decimal, hexDigit, hexOf, lineOf, linesOf, elementsText, listed, listing}
+use Rattle.listing.specs.Listing.{digits, decimal, hexDigit, hexOf, lineOf, linesOf, elementsText, placedText, listed, listing}
 
 abbrev zeros : ℕ → List ℕ
 zeros n = replicate n 0
@@ -84,6 +84,17 @@ refused3 =
     0x72 ∷ 0x65 ∷ 0x66 ∷ 0x75 ∷ 0x73 ∷ 0x65 ∷ 0x64 ∷ 0x20 ∷ 0x33 ∷ 0x0A ∷
     []
 
+-- the whole case's basic block, a filler, and a block that runs past the end
+abbrev pub damagedTag : List ℕ
+damagedTag = 0x11 ∷ 1 ∷ 1 ∷ 0x42 ∷ 0x31 ∷ zeros 14 ++ (0xD9 ∷ 0x4B ∷ zeros 13 ++ (1 ∷ 3 ∷ []))
+
+abbrev refused16 : List ℕ
+refused16 =
+    -- refused 16 35
+    0x72 ∷ 0x65 ∷ 0x66 ∷ 0x75 ∷ 0x73 ∷ 0x65 ∷ 0x64 ∷ 0x20 ∷ 0x31 ∷ 0x36 ∷ 0x20 ∷ 0x33 ∷ 0x35 ∷ 0x0A ∷
+    []
+
 pub examples : (listing wholeTag ≡ wholeText) × (listing bookTag ≡ bookText) × (listing (zeros 36) ≡ refused3) × (listing [] ≡ refused1) × (listing (zeros 2049) ≡ refused1)
-unfolding need needAt inOrder andThen orElse passed all same le16 word padWith trim strip upTo past xorAll joined goodSize crcBit crcBits crcByte crcFrom crc covered textByte text capital unitByte isilOf isil alternative isOwner goodItem prefixIn ownerSaid goodOwner named summed wellFormed damageSteps walk chain libraryBlock otherBlocks payload lastField libraryIn goodLibrary numbers heads bodies sheetOf offsetsFit entriesAt carriedEntries entries goodFields agree ownerOn contentIn tagSteps readSteps digits decimal hexDigit hexOf lineOf linesOf elementsText listed listing
-examples = (refl, refl, refl, refl, refl)
+    × (listing damagedTag ≡ refused16)
+unfolding need needAt inOrder andThen orElse passed all same le16 word padWith trim strip upTo past xorAll joined goodSize crcBit crcBits crcByte crcFrom crc covered textByte text capital unitByte isilOf isil alternative isOwner goodItem prefixIn ownerSaid goodOwner named summed wellFormed damageSteps walk chain libraryBlock otherBlocks payload lastField libraryIn goodLibrary numbers heads bodies sheetOf offsetsFit entriesAt carriedEntries entries goodFields agree ownerOn contentIn tagSteps readSteps digits decimal hexDigit hexOf lineOf linesOf elementsText placedText listed listing
+examples = (refl, refl, refl, refl, refl, refl)

@@ -3,7 +3,7 @@ use Prim.Native.Nat.{ℕ, zero, suc, _+_, _/_, _%_}
 use mathlib.Core.List.{List, [], _∷_, _++_}
 use lib.ListN.{length}
 use lib.Dec.{leb}
-use Rattle.format.specs.Answers.{got, refused, plain, Step, inOrder}
+use Rattle.format.specs.Answers.{Refusal, plain, placed, got, refused, Step, inOrder}
 use Rattle.format.specs.Bytes.{if_then_else_}
 use Rattle.format.specs.Pages.{pageSize}
 use Rattle.format.specs.Sheet.{Entry, entries}
@@ -53,10 +53,18 @@ counted word n = word ++ (decimal n ++ (0x0A ∷ []))
 unfoldable pub elementsText : List Entry → List ℕ
 elementsText es = counted elementsWord (length es) ++ linesOf es
 
--- what is printed of a tag: its elements, or one line that tells the refusal
+-- one line for a refusal: its number, and for damage the place after a blank, in decimal
+unfoldable pub placedText : ℕ → ℕ → List ℕ
+placedText k p = refusedWord ++ (decimal k ++ counted (0x20 ∷ []) p)
+
+abbrev pub refusedText : Refusal → List ℕ
+refusedText (plain k) = counted refusedWord k
+refusedText (placed k p) = placedText k p
+
+-- what is printed of a tag: its elements, or the line of the refusal
 unfoldable pub listed : List ℕ → Step → List ℕ
 listed t (got u) = elementsText (entries (contentIn t))
-listed t (refused (plain k)) = counted refusedWord k
+listed t (refused x) = refusedText x
 
 -- the room for the sheet that the tag is read into; no tag needs more (`room-enough`, proofs/Room.antt)
 abbrev pub sheetRoom : ℕ

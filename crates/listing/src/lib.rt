@@ -1,5 +1,6 @@
 // What `taglist` prints of a tag, laid down in a lent buffer. The text is defined in `specs/Listing.antt`.
-use format::NumberAnswer;
+use format::ReadAnswer;
+use format::Refusal;
 use reading::read;
 ghost use mathlib.Core.Path.{_≡_};
 ghost use mathlib.Core.List.{[], _∷_};
@@ -8,7 +9,8 @@ ghost use lib.ListN.{length};
 ghost use Rattle.format.specs.Bytes.{filled};
 ghost use Rattle.format.specs.Pieces.{stored};
 ghost use Rattle.format.specs.Sheet.{countIn, entriesIn, sheetOf};
-ghost use Rattle.listing.specs.Listing.{decimal, leading, hexDigit, hexOf, lineOf, linesOf, counted, elementsText, sheetRoom, listing};
+ghost use Rattle.format.specs.Numbers.{refusalGiven, refusalNumber, refusalPlace};
+ghost use Rattle.listing.specs.Listing.{decimal, leading, hexDigit, hexOf, lineOf, linesOf, counted, elementsText, placedText, refusedText, sheetRoom, listing};
 
 // Each `put_` function stores a piece of the text in `out` from `at` on, leaves the rest of `out` as it is, and answers the place behind
 // the piece.
@@ -125,6 +127,27 @@ fn put_elements(out: &mut [u8], sheet: &[u8]) -> usize
     put_lines(out, lines, sheet, count)
 }
 
+// The line of a refusal for damage: the number, a blank, and the place.
+fn put_placed(out: &mut [u8], number: usize, place: usize) -> usize
+    requires { ⌜ (18 ≤ length (now out)) × (number < 10000) × (place < 10000) ⌝ }
+    ensures { λ r. ⌜ stored (now (out .entry)) 0 (placedText number place) r (now (out .exit)) ⌝ }
+{
+    let at = put_word(out, 0, b"refused ");
+    let blank = put_decimal(out, at, number);
+    put_counted(out, blank, b" ", place)
+}
+
+// The line of a refusal.
+fn put_refusal(out: &mut [u8], refusal: Refusal) -> usize
+    requires { ⌜ (18 ≤ length (now out)) × (refusalNumber (refusalGiven refusal) < 10000) × (refusalPlace (refusalGiven refusal) 0 < 10000) ⌝ }
+    ensures { λ r. ⌜ stored (now (out .entry)) 0 (refusedText (refusalGiven refusal)) r (now (out .exit)) ⌝ }
+{
+    match refusal {
+        Refusal::Plain(number) => put_counted(out, 0, b"refused ", number as usize),
+        Refusal::Placed { number, place } => put_placed(out, number as usize, place),
+    }
+}
+
 // What `taglist` prints of a tag, laid down at the front of `out`, which else stays the same; answers its length. Any bytes will do.
 pub fn list(tag: &[u8], out: &mut [u8; 20480]) -> usize
     ensures { λ r. ⌜ (r ≡ length (listing (now (tag .entry)))) × (now (out .exit) ≡ filled (listing (now (tag .entry))) (now (out .entry))) ⌝ }
@@ -132,7 +155,7 @@ pub fn list(tag: &[u8], out: &mut [u8; 20480]) -> usize
     let mut sheet = [0u8; 8192];
     let answer = read(tag, &mut sheet);
     match answer {
-        NumberAnswer::Done(n) => put_elements(out, &sheet[0..n]),
-        NumberAnswer::Refused(k) => put_counted(out, 0, b"refused ", k as usize),
+        ReadAnswer::Done(n) => put_elements(out, &sheet[0..n]),
+        ReadAnswer::Refused(refusal) => put_refusal(out, refusal),
     }
 }

@@ -27,4 +27,8 @@ fn main() {
     check::expect(lists(&[0u8; 36], b"refused 3\n"));
     check::expect(lists(b"", b"refused 1\n"));
     check::expect(lists(&[0u8; 2049], b"refused 1\n"));
+    // The whole case's basic block, a filler, and a block that runs past the end.
+    let damaged =
+        b"\x11\x01\x01B1\0\0\0\0\0\0\0\0\0\0\0\0\0\0\xD9K\0\0\0\0\0\0\0\0\0\0\0\0\0\x01\x03";
+    check::expect(lists(damaged, b"refused 16 35\n"));
 }

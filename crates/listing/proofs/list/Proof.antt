@@ -7,8 +7,9 @@ use lib.ListN.{length, replicate, length-replicate}
 use borrow.Author.Needs.{needs}
 use Rattle.format.specs.Bytes.{filled}
 use Rattle.format.specs.Pieces.{stored}
+use Rattle.format.specs.Numbers.{refusalGiven}
 use Rattle.format.proofs.Pieces.{stored-as, stored-front}
-use Rattle.listing.proofs.Outcome.{Sheet, sheet-listed, Refusal, refusal-listed}
+use Rattle.listing.proofs.Outcome.{Sheet, sheet-listed, Listed, refusal-listed}
 use Rattle.listing.proofs.list.Statement.{statement}
 use Rattle.listing.proofs.list.Tie as tie
 
@@ -33,7 +34,7 @@ sheet c =
     sheet-listed t blank _ _ _ blank-length (c .before .before .before .read .ensures) (c .answer .given .1)
 
 -- the refusal
-refusal : (c : tie.After-answer2) → Refusal (c .before .before .before .before .before .before .args .tag .now) (c .answer2 .given .0 .0)
+refusal : (c : tie.After-answer2) → Listed (c .before .before .before .before .before .before .args .tag .now) (refusalGiven (c .answer2 .given .0 .0))
 unfolding blank
 refusal c =
     let t = c .before .before .before .before .before .before .args .tag .now in
@@ -63,14 +64,8 @@ put-elements-requires c κs = let h = sheet (c .before .before .before .before) 
 enum-known-answer-2 : tie.Need-enum-known-answer-2
 enum-known-answer-2 c = search needs
 
-slice-aggregate-put-counted : tie.Need-slice-aggregate-put-counted
-slice-aggregate-put-counted c = search needs
-
-cast-put-counted : tie.Need-cast-put-counted
-cast-put-counted c = search needs
-
-put-counted-requires : tie.Need-put-counted-requires
-put-counted-requires c κs = let h = refusal (c .before .before .before) in (search needs, omega arith)
+put-refusal-requires : tie.Need-put-refusal-requires
+put-refusal-requires c κs = let h = refusal (c .before .before) in (omega arith, h .number, h .place)
 
 returns : tie.Need-returns
 returns c =
@@ -79,8 +74,8 @@ returns c =
 
 returns-2 : tie.Need-returns-2
 returns-2 c =
-    let o = c .before .before .before .before .before .before .before .before .before .before .args .out .now in
-    printed o _ _ _ _ (refusal (c .before .before .before .before) .text) (c .put-counted .ensures)
+    let o = c .before .before .before .before .before .before .before .before .before .args .out .now in
+    printed o _ _ _ _ (refusal (c .before .before .before) .text) (c .put-refusal .ensures)
 
 pub list-spec : {M : Type 1} → statement M
 list-spec =
@@ -94,8 +89,6 @@ list-spec =
     part-put-elements-end
     put-elements-requires
     enum-known-answer-2
-    slice-aggregate-put-counted
-    cast-put-counted
-    put-counted-requires
+    put-refusal-requires
     returns
     returns-2)

@@ -61,6 +61,15 @@ expect-requires-5 c κs = c .lists5 .ensures .1 (examples .4)
 returns : tie.Need-returns
 returns c = search needs
 
+slice-aggregate-lists-9 : tie.Need-slice-aggregate-lists-9
+slice-aggregate-lists-9 c = search needs
+
+lists-requires-6 : tie.Need-lists-requires-6
+lists-requires-6 c κs = search needs
+
+expect-requires-6 : tie.Need-expect-requires-6
+expect-requires-6 c κs = c .lists6 .ensures .1 (examples .5)
+
 pub main-spec : {M : Type 1} → statement M
 main-spec =
     tie.close
