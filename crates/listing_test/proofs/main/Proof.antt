@@ -58,9 +58,6 @@ lists-requires-5 c κs = search needs
 expect-requires-5 : tie.Need-expect-requires-5
 expect-requires-5 c κs = c .lists5 .ensures .1 (examples .4)
 
-returns : tie.Need-returns
-returns c = search needs
-
 slice-aggregate-lists-9 : tie.Need-slice-aggregate-lists-9
 slice-aggregate-lists-9 c = search needs
 
@@ -69,6 +66,9 @@ lists-requires-6 c κs = search needs
 
 expect-requires-6 : tie.Need-expect-requires-6
 expect-requires-6 c κs = c .lists6 .ensures .1 (examples .5)
+
+returns : tie.Need-returns
+returns c = search needs
 
 pub main-spec : {M : Type 1} → statement M
 main-spec =
@@ -92,4 +92,7 @@ main-spec =
     slice-aggregate-lists-8
     lists-requires-5
     expect-requires-5
+    slice-aggregate-lists-9
+    lists-requires-6
+    expect-requires-6
     returns)
