@@ -134,7 +134,8 @@ extern "C" {
 #define URP_BLOCK_CHECKSUM 18  /* a block's checksum differs */
 #define URP_BLOCK_SECOND 19    /* a second block 1 */
 
-/* Is this an answer that comes with a place, one of 15 to 19? */
+/* Is this an answer that comes with a place, one of 15 to 19? The argument is
+   evaluated once. */
 #define URP_HAS_PLACE(answer) ((uint32_t)(answer) - 15u <= 4u)
 
 /* Reads a tag into a sheet.
