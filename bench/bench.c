@@ -15,12 +15,12 @@
 #include <time.h>
 
 typedef uint32_t read_call(const uint8_t *, size_t, uint8_t *, size_t,
-                           size_t *);
+                           size_t *, size_t *);
 typedef uint32_t write_call(const uint8_t *, size_t, uint8_t *, size_t,
                             const uint8_t *, size_t, size_t *);
 typedef uint32_t edit_call(uint8_t *, size_t, const uint8_t *, size_t,
                            uint32_t, const uint8_t *, size_t,
-                           uint8_t *, size_t, size_t *, size_t *);
+                           uint8_t *, size_t, size_t *, size_t *, size_t *);
 
 extern read_call plain_read;
 extern write_call plain_write;
@@ -53,16 +53,18 @@ enum { LIBRARIES = sizeof libraries / sizeof libraries[0] };
 enum { MOST_REPETITIONS = 1001, SLICE_NS = 200000, CALIBRATIONS = 5 };
 
 /* What a tag holds besides its first 34 bytes. */
-enum blocks { NONE, FEW, LONG, MANY };
+enum blocks { NONE, FEW, LONG, MANY, BROKEN };
 
-static const char *const block_names[] = { "none", "few", "long", "many" };
+static const char *const block_names[] = {
+    "none", "few", "long", "many", "broken"
+};
 
 static const struct row {
     size_t tag_len;
     enum blocks blocks;
 } rows[] = {
     { 32, NONE }, { 112, FEW }, { 112, MANY }, { 256, FEW }, { 256, MANY },
-    { 2048, FEW }, { 2048, LONG }, { 2048, MANY }
+    { 256, BROKEN }, { 2048, FEW }, { 2048, LONG }, { 2048, MANY }
 };
 
 enum { ROWS = sizeof rows / sizeof rows[0] };
@@ -71,14 +73,17 @@ enum call { READ, WRITE, EDIT, CALLS };
 
 static const char *const call_names[CALLS] = { "read", "write", "edit" };
 
+enum { BROKEN_BYTES = 6 };  /* the length of the broken block, the last */
+
 struct sheet {
     uint8_t bytes[URP_SHEET_MAX];
     size_t len;
 };
 
-/* The inputs of one row. Calls take the two of each kind in turn, so that each
-   write and each edit changes the tag. */
+/* The inputs of one row, and the answer to all its calls. Calls take the two of
+   each kind in turn, so that each write and each edit changes the tag. */
 struct inputs {
+    uint32_t answer;
     size_t tag_len;
     uint8_t locks[URP_LOCKS_MAX];
     struct sheet sheets[2];
@@ -95,7 +100,8 @@ struct outputs {
     uint8_t old[URP_OLD_MAX];
     size_t len;
     size_t pages;
-    uint32_t refusals;  /* all answers or'ed: 0 if none was a refusal */
+    size_t place;
+    uint32_t wrong;  /* 0 if every answer was the row's */
 };
 
 static void stop(const char *message)
@@ -186,7 +192,7 @@ static size_t add(struct entry *entries, size_t count, uint8_t number,
 /* The sheet number 0 or 1 of a row: elements 1, 3, 4 and 5 in the first 34
    bytes; for FEW also block 1 with 19, 22 and a sub qualifier, and one or three
    blocks of 34 bytes; for LONG blocks of 251 bytes, for MANY of 3, as many as
-   fit. */
+   fit; for BROKEN as for MANY, and behind them the block to be broken. */
 static void make_row_sheet(const struct row *row, int which, struct inputs *in)
 {
     static struct entry entries[1 + 7 + URP_TAG_MAX / 3];
@@ -207,6 +213,10 @@ static void make_row_sheet(const struct row *row, int which, struct inputs *in)
         n = add_blocks(entries, n, store, 251, 3, room);
     if (row->blocks == MANY)
         n = add_blocks(entries, n, store, 3, 300, room);
+    if (row->blocks == BROKEN) {
+        n = add_blocks(entries, n, store, 3, 300, room - BROKEN_BYTES);
+        n = add_blocks(entries, n, store + 3, BROKEN_BYTES, 2, BROKEN_BYTES);
+    }
     make_sheet(&in->sheets[which], entries, n);
 }
 
@@ -217,7 +227,8 @@ static void set_value(struct inputs *in, int which, const char *text)
 }
 
 /* Edits change the length of block 1 of a FEW tag and so move its other blocks;
-   of the others they change the first 34 bytes. */
+   of the others they change the first 34 bytes. The broken block ends a BROKEN
+   tag, and its checksum is made to differ. */
 static void make_inputs(const struct row *row, const struct library *by,
                         struct inputs *in)
 {
@@ -225,6 +236,7 @@ static void make_inputs(const struct row *row, const struct library *by,
     size_t pages;
 
     memset(in, 0, sizeof *in);
+    in->answer = row->blocks == BROKEN ? URP_BLOCK_CHECKSUM : URP_DONE;
     in->tag_len = row->tag_len;
     in->number = row->blocks == FEW ? 22 : 1;
     set_value(in, 0, row->blocks == FEW ? "978-3-16" : "3000000099");
@@ -235,10 +247,19 @@ static void make_inputs(const struct row *row, const struct library *by,
                       in->tags[which], in->tag_len, in->locks,
                       in->tag_len / URP_PAGE, &pages) != URP_DONE)
             stop("a row's sheet is refused");
+        if (row->blocks == BROKEN)
+            in->tags[which][in->tag_len - 1] ^= 1;
     }
 }
 
 /* ---- calls ---- */
+
+/* How many of the calls are made of a row, from the first on: a broken tag is
+   only read. */
+static int calls_of(const struct row *row)
+{
+    return row->blocks == BROKEN ? READ + 1 : CALLS;
+}
 
 static void begin(struct outputs *out, const struct inputs *in)
 {
@@ -255,21 +276,21 @@ static void make_calls(const struct library *lib, enum call call,
 
     for (i = 0; i < turns; i++) {
         size_t k = i % 2;
+        uint32_t answer;
 
         if (call == READ)
-            out->refusals |= lib->read(in->tags[k], in->tag_len, out->sheet,
-                                       sizeof out->sheet, &out->len);
+            answer = lib->read(in->tags[k], in->tag_len, out->sheet,
+                               sizeof out->sheet, &out->len, &out->place);
         else if (call == WRITE)  /* the tag holds sheet 0: begin with 1 */
-            out->refusals |= lib->write(in->sheets[1 - k].bytes,
-                                        in->sheets[1 - k].len, out->tag,
-                                        in->tag_len, in->locks, locks_len,
-                                        &out->pages);
+            answer = lib->write(in->sheets[1 - k].bytes,
+                                in->sheets[1 - k].len, out->tag, in->tag_len,
+                                in->locks, locks_len, &out->pages);
         else
-            out->refusals |= lib->edit(out->tag, in->tag_len, in->locks,
-                                       locks_len, in->number, in->values[k],
-                                       in->value_lens[k], out->old,
-                                       sizeof out->old, &out->pages,
-                                       &out->len);
+            answer = lib->edit(out->tag, in->tag_len, in->locks, locks_len,
+                               in->number, in->values[k], in->value_lens[k],
+                               out->old, sizeof out->old, &out->pages,
+                               &out->len, &out->place);
+        out->wrong |= answer ^ in->answer;
     }
 }
 
@@ -285,8 +306,8 @@ static void compare(const struct row *row, enum call call,
         for (i = A; i < LIBRARIES; i++) {
             begin(&out[i], in);
             make_calls(&libraries[i], call, in, &out[i], turns);
-            if (out[i].refusals != 0)
-                stop_at(row, call, i, "refuses");
+            if (out[i].wrong != 0)
+                stop_at(row, call, i, "gives a wrong answer");
             if (call != READ && out[i].pages == 0)
                 stop_at(row, call, i, "changes nothing");
             if (memcmp(&out[i], &out[A], sizeof out[i]) != 0)
@@ -378,8 +399,8 @@ static void time_call(const struct row *row, enum call call,
 
             times[which][i] = slice(&libraries[which], call, in, &out,
                                     turns[which]);
-            if (out.refusals != 0)
-                stop_at(row, call, (int)which, "refuses a timed call");
+            if (out.wrong != 0)
+                stop_at(row, call, (int)which, "answers a timed call wrongly");
         }
         for (k = B; k < LIBRARIES; k++)
             ratios[k][i] = times[A][i] / times[k][i];
@@ -402,7 +423,7 @@ static void time_all(size_t repetitions)
 
     for (r = 0; r < ROWS; r++) {
         make_inputs(&rows[r], &libraries[B], &in);
-        for (call = READ; call < CALLS; call++) {
+        for (call = READ; call < calls_of(&rows[r]); call++) {
             compare(&rows[r], (enum call)call, &in);
             time_call(&rows[r], (enum call)call, &in, repetitions);
         }
@@ -415,7 +436,7 @@ static void print_names(void)
     int call;
 
     for (r = 0; r < ROWS; r++) {
-        for (call = READ; call < CALLS; call++) {
+        for (call = READ; call < calls_of(&rows[r]); call++) {
             print_name(&rows[r], (enum call)call);
             printf("\n");
         }
@@ -432,11 +453,12 @@ static void call_all(int which)
 
     for (r = 0; r < ROWS; r++) {
         make_inputs(&rows[r], &libraries[which == A ? B : A], &in);
-        for (call = READ; call < CALLS; call++) {
+        for (call = READ; call < calls_of(&rows[r]); call++) {
             begin(&out, &in);
             make_calls(&libraries[which], (enum call)call, &in, &out, 2);
-            if (out.refusals != 0)
-                stop_at(&rows[r], (enum call)call, which, "refuses a call");
+            if (out.wrong != 0)
+                stop_at(&rows[r], (enum call)call, which,
+                        "gives a wrong answer");
         }
     }
 }

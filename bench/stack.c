@@ -76,13 +76,14 @@ static uint32_t noted(enum call call, const uint8_t *top, uint32_t answer)
 
 uint32_t stack_read(const uint8_t *tag, size_t tag_len,
                     uint8_t *sheet, size_t sheet_len,
-                    size_t *used)
+                    size_t *used, size_t *place)
 {
     uint8_t *top;
 
     GET_STACK_POINTER(top);
     paint(top);
-    return noted(READ, top, urp_read(tag, tag_len, sheet, sheet_len, used));
+    return noted(READ, top, urp_read(tag, tag_len, sheet, sheet_len, used,
+                                     place));
 }
 
 uint32_t stack_write(const uint8_t *sheet, size_t sheet_len,
@@ -103,7 +104,7 @@ uint32_t stack_edit(uint8_t *tag, size_t tag_len,
                     uint32_t number,
                     const uint8_t *value, size_t value_len,
                     uint8_t *old, size_t old_len,
-                    size_t *pages, size_t *old_used)
+                    size_t *pages, size_t *old_used, size_t *place)
 {
     uint8_t *top;
 
@@ -111,5 +112,5 @@ uint32_t stack_edit(uint8_t *tag, size_t tag_len,
     paint(top);
     return noted(EDIT, top, urp_edit(tag, tag_len, locks, locks_len, number,
                                      value, value_len, old, old_len, pages,
-                                     old_used));
+                                     old_used, place));
 }

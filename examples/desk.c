@@ -42,6 +42,17 @@ static int refused(uint32_t answer)
     return REFUSED;
 }
 
+/* A refusal by a call that gives the place of damage, which is looked at only
+   where the answer comes with one. */
+static int refused_at(uint32_t answer, const size_t *place)
+{
+    if (!URP_HAS_PLACE(answer))
+        return refused(answer);
+    fprintf(stderr, "refused %lu at byte %lu: %s\n", (unsigned long)answer,
+            (unsigned long)*place, urp_refusal_text(answer));
+    return REFUSED;
+}
+
 static void put_hex(FILE *out, const uint8_t *bytes, size_t len)
 {
     size_t i;
@@ -229,14 +240,14 @@ static int list(const char *tag_path)
 {
     struct tag tag;
     uint8_t sheet[URP_SHEET_MAX];
-    size_t used;
+    size_t used, place;
     uint32_t answer;
 
     if (load_tag(tag_path, "-", &tag) != DONE)
         return TROUBLE;
-    answer = urp_read(tag.bytes, tag.len, sheet, sizeof sheet, &used);
+    answer = urp_read(tag.bytes, tag.len, sheet, sizeof sheet, &used, &place);
     if (answer != URP_DONE)
-        return refused(answer);
+        return refused_at(answer, &place);
     show_sheet(sheet);
     return DONE;
 }
@@ -302,16 +313,16 @@ static int set_element(const char *tag_path, const char *locks_path,
 {
     struct tag tag;
     struct element old;
-    size_t pages;
+    size_t pages, place;
     uint32_t answer;
 
     if (load_tag(tag_path, locks_path, &tag) != DONE)
         return TROUBLE;
     answer = urp_edit(tag.bytes, tag.len, tag.locks, tag.locks_len, e->number,
                       e->bytes, e->len, old.bytes, sizeof old.bytes,
-                      &pages, &old.len);
+                      &pages, &old.len, &place);
     if (answer != URP_DONE)
-        return refused(answer);
+        return refused_at(answer, &place);
     old.number = e->number;
     if (pages > 0 && save_edit(tag_path, &tag, &old) != DONE)
         return TROUBLE;
@@ -369,14 +380,15 @@ static int demo_owner(struct tag *tag, const struct element *owner,
                       struct element *old, size_t *pages)
 {
     struct tag before = *tag;
+    size_t place;
     uint32_t answer = urp_edit(tag->bytes, tag->len, tag->locks,
                                tag->locks_len, owner->number,
                                owner->bytes, owner->len,
                                old->bytes, sizeof old->bytes,
-                               pages, &old->len);
+                               pages, &old->len, &place);
 
     if (answer != URP_DONE)
-        return refused(answer);
+        return refused_at(answer, &place);
     old->number = owner->number;
     fputs("edit   3 ", stdout);
     put_hex(stdout, owner->bytes, owner->len);
@@ -421,7 +433,7 @@ static int demo(void)
 {
     struct tag tag, start;
     uint8_t sheet[URP_SHEET_MAX];
-    size_t pages, used;
+    size_t pages, used, place;
     uint32_t answer;
 
     memset(&tag, 0, sizeof tag);
@@ -436,9 +448,9 @@ static int demo(void)
            (unsigned long)pages);
     show_changed(start.bytes, tag.bytes, tag.len);
 
-    answer = urp_read(tag.bytes, tag.len, sheet, sizeof sheet, &used);
+    answer = urp_read(tag.bytes, tag.len, sheet, sizeof sheet, &used, &place);
     if (answer != URP_DONE)
-        return refused(answer);
+        return refused_at(answer, &place);
     if (used != sizeof whole_sheet || memcmp(sheet, whole_sheet, used) != 0)
         return trouble("demo", "another sheet was read than written");
     printf("read   the sheet that was written, %lu bytes: ",

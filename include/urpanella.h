@@ -36,8 +36,8 @@
 
    BLOCKS
    From byte 34 on a tag holds blocks, one behind the other, up to a byte 00 or
-   the tag's end; a tag of 32 bytes has none. An element 255 is one block, of
-   this form:
+   the tag's end; a tag of 32 bytes has none. A byte 01 where one could begin is
+   a filler, and is passed over. An element 255 is one block, of this form:
        length       1 byte, the whole block, itself included: 3 to 255
        ID           2 bytes, low byte first: 2 to 65,535
        checksum     1 byte, where the ID is at most 100: the XOR of all other
@@ -134,8 +134,9 @@ extern "C" {
 #define URP_BLOCK_CHECKSUM 18  /* a block's checksum differs */
 #define URP_BLOCK_SECOND 19    /* a second block 1 */
 
-/* Is this an answer that comes with a place? */
-#define URP_HAS_PLACE(answer) ((answer) >= 15 && (answer) <= 19)
+/* Is this an answer that comes with a place, one of 15 to 19? The argument is
+   evaluated once. */
+#define URP_HAS_PLACE(answer) ((uint32_t)(answer) - 15u <= 4u)
 
 /* Reads a tag into a sheet.
    Takes   tag[0 .. tag_len): the tag. It is only read.
