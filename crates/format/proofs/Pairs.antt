@@ -132,7 +132,7 @@ markedSheet : List ℕ
 markedSheet = 4 ∷ 0 ∷ 1 ∷ 18 ∷ 0 ∷ 17 ∷ 3 ∷ 35 ∷ 0 ∷ 8 ∷ 4 ∷ 43 ∷ 0 ∷ 4 ∷ 5 ∷ 47 ∷ 0 ∷ 1 ∷ longItem ++ (isilOclc ++ (1 ∷ 0 ∷ 1 ∷ 0 ∷ 0x35 ∷ []))
 
 -- part 1 of 2, usage 7 and nothing else in the basic block, with these blocks behind it
-withBlocks : List ℕ → List ℕ
+unfoldable pub withBlocks : List ℕ → List ℕ
 withBlocks s = 0x71 ∷ 2 ∷ 1 ∷ zeros 16 ++ (0x7F ∷ 0xD3 ∷ zeros 13 ++ s)
 
 -- a block 1 that ends with the tag: media 1, alternative item A

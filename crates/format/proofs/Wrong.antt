@@ -1,13 +1,14 @@
 -- Wrong readers, writers and editors, and the demand that each breaks. Nothing is said here of `reading`, `writing` or `editing`: whatever
 -- program is of one of these kinds does not keep the demand (specs/Demands.antt), however its proof were made.
 use mathlib.Core.Path.{_≡_, refl, sym, ap, _∙_}
-use Prim.Native.Nat.{ℕ, _/_, _<_}
+use Prim.Native.Nat.{ℕ, _/_, _%_, _<_}
 use native.Mathlib.Omega.{arith}
 use mathlib.Core.Bool.{true, false, _&&_}
 use mathlib.Core.List.{List, [], _∷_}
 use lib.ListN.{length, getD, replicate}
-use Rattle.format.specs.Answers.{Answer, Refusal, got, refused, Step, need, needAt, inOrder, Passed, afterwards, andThen, orElse, passed}
-use Rattle.format.specs.Bytes.{isEmpty, all, same, le16, word, padWith, trim, strip, upTo, past, xorAll, joined}
+use lib.Dec.{eqb}
+use Rattle.format.specs.Answers.{Answer, Refusal, placed, got, refused, Step, need, needAt, inOrder, Passed, afterwards, andThen, orElse, passed}
+use Rattle.format.specs.Bytes.{isEmpty, all, same, le16, word, part, padWith, trim, strip, upTo, past, xorAll, joined}
 use Rattle.format.specs.Pages.{pageSize, goodSize, lockMap, differs, lockedDiffers, count, changed, lockedChanged}
 use Rattle.format.specs.Crc.{crcBit, crcBits, crcByte, crcFrom, crc, covered}
 use Rattle.format.specs.Fields.{textByte, text, capital, unitByte, isilOf, isil, alternative, isOwner, goodItem, prefixIn, ownerSaid, goodOwner, itemField, packed, basicOwner, ownerField}
@@ -15,13 +16,16 @@ use Rattle.format.specs.Chain.{named, summed, wellFormed, carriable, dam
 use Rattle.format.specs.Elements.{Content, numbers, setInfo, shape, form, value, placeIn, place, known, el, put, clash, valuesAt, sound}
 use Rattle.format.specs.Sheet.{heads, bodies, sheetOf, offsetsFit, risingFrom, rising, cut, entriesIn, rightSheet, find, carriedIn, contentOf, goodValues, entriesAt, carriedEntries, entries}
 use Rattle.format.specs.Layout.{library, front, basic, laidOut, image, layout, hasLayout}
-use Rattle.format.specs.Reading.{goodFields, agree, ownerOn, contentIn, tagSteps}
+use Rattle.format.specs.Reading.{walked, goodFields, agree, ownerOn, contentIn, tagSteps}
+use Rattle.format.specs.Damage.{Spoilt}
 use Rattle.format.specs.Calls.{readSteps, layingSteps, sheetContent, writeSteps, ownLayout, editSteps, Edited, Reader, Writer, Editor}
+use Rattle.format.specs.Numbers.{oneOf, damageNumbers}
 use Rattle.format.specs.History.{Own, Edit, noted, edited, run, Undone}
-use Rattle.format.specs.Demands.{ReadsExactly, WritesExactly, EditsExactly, ReadsBack, LaysDown, CountsWritten, EveryHistory, SameIsNothing}
-use Rattle.format.proofs.Tests.{never}
+use Rattle.format.specs.Demands.{ReadsExactly, WritesExactly, EditsExactly, ReadsDamage, EditsDamage, ReadsBack, LaysDown, CountsWritten, EveryHistory, SameIsNothing}
+use Rattle.format.proofs.Tests.{never, and-l}
 use Rattle.format.proofs.Answers.{worked}
-use Rattle.format.proofs.Pairs.{zeros, isilUs, isilDk, fieldDk, wholeSheet, wholeFront, wholeTag, item2, acquisition, tag2, sheet2}
+use Rattle.format.proofs.Damages.{placed-damage, damage-number}
+use Rattle.format.proofs.Pairs.{zeros, withBlocks, isilUs, isilDk, fieldDk, wholeSheet, wholeFront, wholeTag, item2, acquisition, tag2, sheet2}
 
 -- ---- two sheets, two tags, and a few edits that serve to tell right from wrong
 
@@ -44,6 +48,13 @@ owned = image (length wholeTag) (put whole 3 isilUs)
 
 used : List ℕ
 used = replicate 40 0xFF
+
+-- two tags with a block of length 2: behind a filler, and first
+abbrev damagedLate : List ℕ
+damagedLate = withBlocks (1 ∷ 2 ∷ [])
+
+abbrev damagedFirst : List ℕ
+damagedFirst = withBlocks (2 ∷ 101 ∷ [])
 
 -- what is computed of them
 record Facts : Type 0 where
@@ -76,9 +87,17 @@ record Facts : Type 0 where
   book-laid : length (laidOut (length tag2) (put (contentIn tag2) 19 [] .slots) (joined (put (contentIn tag2) 19 [] .carried))) ≡ 68
   book-byte : getD tag2 70 0 ≡ 0x35
   new-book-byte : getD (image (length tag2) (put book 19 [])) 70 0 ≡ 0
+  late-size : goodSize pageSize (length damagedLate) && lockMap pageSize (zeros 9) (length damagedLate) ≡ true
+  late-parameter : eqb (getD damagedLate 0 0 % 16) 1 ≡ true
+  late-check : same (part 19 2 damagedLate) (le16 (crc (covered damagedLate))) ≡ true
+  late-walked : walked damagedLate ≡ refused (placed 15 35)
+  first-size : goodSize pageSize (length damagedFirst) && lockMap pageSize (zeros 9) (length damagedFirst) ≡ true
+  first-parameter : eqb (getD damagedFirst 0 0 % 16) 1 ≡ true
+  first-check : same (part 19 2 damagedFirst) (le16 (crc (covered damagedFirst))) ≡ true
+  first-walked : walked damagedFirst ≡ refused (placed 15 34)
 
 facts : Facts
-unfolding item otherSheet used isilUs isilDk fieldDk wholeSheet wholeFront wholeTag item2 acquisition tag2 sheet2 need needAt inOrder afterwards andThen orElse passed all same le16 word padWith trim strip upTo past xorAll joined goodSize lockMap differs lockedDiffers count changed lockedChanged crcBit crcBits crcByte crcFrom crc covered textByte text capital unitByte isilOf isil alternative isOwner goodItem prefixIn ownerSaid goodOwner itemField packed basicOwner ownerField named summed wellFormed carriable damageSteps walk chain libraryBlock otherBlocks payload lastField libraryIn goodLibrary libraryBytes sealed blockOne numbers setInfo shape form value placeIn place known put clash valuesAt sound heads bodies sheetOf offsetsFit risingFrom rising cut entriesIn rightSheet find carriedIn contentOf goodValues entriesAt carriedEntries entries library front basic laidOut layout hasLayout goodFields agree ownerOn contentIn tagSteps layingSteps ownLayout readSteps writeSteps editSteps
+unfolding item otherSheet used withBlocks isilUs isilDk fieldDk wholeSheet wholeFront wholeTag item2 acquisition tag2 sheet2 need needAt inOrder afterwards andThen orElse passed all same le16 word padWith trim strip upTo past xorAll joined goodSize lockMap differs lockedDiffers count changed lockedChanged crcBit crcBits crcByte crcFrom crc covered textByte text capital unitByte isilOf isil alternative isOwner goodItem prefixIn ownerSaid goodOwner itemField packed basicOwner ownerField named summed wellFormed carriable damageSteps walk chain libraryBlock otherBlocks payload lastField libraryIn goodLibrary libraryBytes sealed blockOne numbers setInfo shape form value placeIn place known put clash valuesAt sound heads bodies sheetOf offsetsFit risingFrom rising cut entriesIn rightSheet find carriedIn contentOf goodValues entriesAt carriedEntries entries library front basic laidOut layout hasLayout goodFields agree ownerOn contentIn tagSteps layingSteps ownLayout readSteps writeSteps editSteps
 facts = record {
   read-whole = refl;
   write-whole = refl;
@@ -109,7 +128,21 @@ facts = record {
   book-laid = refl;
   book-byte = refl;
   new-book-byte = refl;
+  late-size = refl;
+  late-parameter = refl;
+  late-check = refl;
+  late-walked = refl;
+  first-size = refl;
+  first-parameter = refl;
+  first-check = refl;
+  first-walked = refl;
 }
+
+spoilt-late : Spoilt damagedLate 15 35
+spoilt-late = record { parameter = facts .late-parameter; check = facts .late-check; damage = placed-damage damagedLate 15 35 (facts .late-walked) }
+
+spoilt-first : Spoilt damagedFirst 15 34
+spoilt-first = record { parameter = facts .first-parameter; check = facts .first-check; damage = placed-damage damagedFirst 15 34 (facts .first-walked) }
 
 passes : (ss : List Step) → inOrder ss (tt {0}) ≡ got tt → Passed ss
 passes ss e = worked ss (tt {0}) tt e .0
@@ -131,6 +164,45 @@ pub editor-refusing-all : (edit : Editor) → ((p : ℕ) (t locks : List ℕ) (n
     → EditsExactly edit → ⊥
 editor-refusing-all edit never-edits exact =
     no-refusal (never-edits pageSize wholeTag (zeros 9) 1 item (zeros 255) .1) (exact pageSize wholeTag (zeros 9) 1 item (zeros 255) .works (passes _ (facts .edit-item)) .1)
+
+-- ==== a reader or an editor that gives no place, one place for every tag, or a place with another number than 15 to 19: demand 1, the damage
+
+abbrev sized : (t : List ℕ) → goodSize pageSize (length t) && lockMap pageSize (zeros 9) (length t) ≡ true → goodSize pageSize (length t) ≡ true
+sized t z = and-l (goodSize pageSize (length t)) (lockMap pageSize (zeros 9) (length t)) z
+
+module _ (read : Reader) (damage : ReadsDamage read) where
+  read-late : read pageSize damagedLate [] .answer ≡ refused (placed 15 35)
+  read-late = damage pageSize damagedLate [] 15 35 .1 (sized damagedLate (facts .late-size), spoilt-late)
+
+  read-first : read pageSize damagedFirst [] .answer ≡ refused (placed 15 34)
+  read-first = damage pageSize damagedFirst [] 15 34 .1 (sized damagedFirst (facts .first-size), spoilt-first)
+
+  pub reader-without-place : ((p : ℕ) (t buffer : List ℕ) (k at : ℕ) → read p t buffer .answer ≡ refused (placed k at) → ⊥) → ⊥
+  reader-without-place placeless = placeless pageSize damagedLate [] 15 35 read-late
+
+  pub reader-with-one-place : ((p : ℕ) (t t′ buffer : List ℕ) (k k′ at at′ : ℕ)
+      → read p t buffer .answer ≡ refused (placed k at) → read p t′ buffer .answer ≡ refused (placed k′ at′) → at ≡ at′) → ⊥
+  reader-with-one-place one = let z : _≡_ {A = ℕ} 35 34 = one pageSize damagedLate damagedFirst [] 15 15 35 34 read-late read-first in omega arith
+
+  pub reader-placing-others : (p : ℕ) (t buffer : List ℕ) (k at : ℕ) → oneOf damageNumbers k ≡ false → read p t buffer .answer ≡ refused (placed k at) → ⊥
+  reader-placing-others p t buffer k at o e = never (cc (damage-number t k at (damage p t buffer k at .0 e .1 .damage)))
+
+module _ (edit : Editor) (damage : EditsDamage edit) where
+  edit-late : edit pageSize damagedLate (zeros 9) 1 [] [] .answer ≡ refused (placed 15 35)
+  edit-late = damage pageSize damagedLate (zeros 9) 1 [] [] 15 35 .1 (facts .late-size, spoilt-late)
+
+  edit-first : edit pageSize damagedFirst (zeros 9) 1 [] [] .answer ≡ refused (placed 15 34)
+  edit-first = damage pageSize damagedFirst (zeros 9) 1 [] [] 15 34 .1 (facts .first-size, spoilt-first)
+
+  pub editor-without-place : ((p : ℕ) (t locks : List ℕ) (n : ℕ) (s buffer : List ℕ) (k at : ℕ) → edit p t locks n s buffer .answer ≡ refused (placed k at) → ⊥) → ⊥
+  editor-without-place placeless = placeless pageSize damagedLate (zeros 9) 1 [] [] 15 35 edit-late
+
+  pub editor-with-one-place : ((p : ℕ) (t t′ locks : List ℕ) (n : ℕ) (s buffer : List ℕ) (k k′ at at′ : ℕ)
+      → edit p t locks n s buffer .answer ≡ refused (placed k at) → edit p t′ locks n s buffer .answer ≡ refused (placed k′ at′) → at ≡ at′) → ⊥
+  editor-with-one-place one = let z : _≡_ {A = ℕ} 35 34 = one pageSize damagedLate damagedFirst (zeros 9) 1 [] [] 15 15 35 34 edit-late edit-first in omega arith
+
+  pub editor-placing-others : (p : ℕ) (t locks : List ℕ) (n : ℕ) (s buffer : List ℕ) (k at : ℕ) → oneOf damageNumbers k ≡ false → edit p t locks n s buffer .answer ≡ refused (placed k at) → ⊥
+  editor-placing-others p t locks n s buffer k at o e = never (cc (damage-number t k at (damage p t locks n s buffer k at .0 e .1 .damage)))
 
 -- ==== a reader that gives one sheet for every tag that it reads: demand 2, what is written reads back
 
