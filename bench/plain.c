@@ -1,5 +1,5 @@
-/* plain.c: the three calls of urpanella.h in plain C, written from document 01.
-   The benchmark holds the proved library against it. */
+/* plain.c: the three calls of urpanella.h in plain C, written from documents 01
+   and 02. The benchmark holds the proved library against it. */
 #include "urpanella.h"
 
 #include <string.h>
@@ -222,23 +222,27 @@ static uint8_t xor_over(const uint8_t *bytes, size_t len)
     return x;
 }
 
-/* Whether a block that is no filler begins here and ends within left bytes,
-   left being at least 1. */
-static int is_block(const uint8_t *block, size_t left)
+/* What is wrong with the block that begins here, left bytes before the end and
+   left at least 1: 15 to 18, or URP_DONE for nothing. A filler is no block. */
+static uint32_t block_damage(const uint8_t *block, size_t left)
 {
     size_t len = block[0], id;
 
-    if (len < 3 || len > left)
-        return 0;
+    if (len < 3)
+        return URP_BLOCK_LENGTH;
+    if (len > left)
+        return URP_BLOCK_END;
     id = low_first(block + 1);
-    if (id == 0)
-        return 0;
-    return id > 100 || (len >= LEAD && xor_over(block, len) == 0);
+    if (id > 100)
+        return URP_DONE;
+    if (id == 0 || len < LEAD)
+        return URP_BLOCK_ID;
+    return xor_over(block, len) == 0 ? URP_DONE : URP_BLOCK_CHECKSUM;
 }
 
 static int is_carried(const uint8_t *bytes, size_t len)
 {
-    return len >= 1 && bytes[0] == len && is_block(bytes, len)
+    return len >= 1 && bytes[0] == len && block_damage(bytes, len) == URP_DONE
         && low_first(bytes + 1) != 1;
 }
 
@@ -306,28 +310,41 @@ static void add_carried(struct chain *chain, const uint8_t *block)
     chain->bytes += block[0];
 }
 
-/* Walks the chain; 0 at the first damage. */
-static int walk(const uint8_t *tag, size_t tag_len, struct chain *chain)
+/* Adds a block that is good by itself: 19. */
+static uint32_t add_block(struct chain *chain, const uint8_t *block)
+{
+    if (low_first(block + 1) != 1) {
+        add_carried(chain, block);
+        return URP_DONE;
+    }
+    if (chain->block1 != NULL)
+        return URP_BLOCK_SECOND;
+    chain->block1 = block;
+    return URP_DONE;
+}
+
+/* Walks the chain up to the first damage, and gives its place: 15 to 19. */
+static uint32_t walk(const uint8_t *tag, size_t tag_len, struct chain *chain,
+                     size_t *place)
 {
     size_t at;
 
     memset(chain, 0, sizeof *chain);
     for (at = BASIC; at < tag_len && tag[at] != 0; at += tag[at]) {
         const uint8_t *block = tag + at;
+        uint32_t damage;
 
         if (block[0] == 1)
             continue;
-        if (!is_block(block, tag_len - at))
-            return 0;
-        if (low_first(block + 1) != 1) {
-            add_carried(chain, block);
-            continue;
+        damage = block_damage(block, tag_len - at);
+        if (damage == URP_DONE)
+            damage = add_block(chain, block);
+        if (damage != URP_DONE) {
+            *place = at;
+            return damage;
         }
-        if (chain->block1 != NULL)
-            return 0;
-        chain->block1 = block;
     }
-    return 1;
+    return URP_DONE;
 }
 
 static int take_item(const uint8_t *tag, struct fields *basic)
@@ -456,20 +473,24 @@ static void settle(struct content *c, const uint8_t *tag,
     c->slot[USAGE] = span_of(&c->usage, 1);
 }
 
-/* Takes a tag of good size apart: 3 to 7. The carried blocks count as one part
-   of the tag only if chain says that they follow each other. */
+/* Takes a tag of good size apart: 3, 4, 15 to 19 with the place, 6, 7. The
+   carried blocks count as one part of the tag only if chain says that they
+   follow each other. */
 static uint32_t take_apart(const uint8_t *tag, size_t tag_len,
-                           struct content *c, struct chain *chain)
+                           struct content *c, struct chain *chain,
+                           size_t *place)
 {
     struct fields basic, more;
+    uint32_t damage;
     int good;
 
     if ((tag[0] & 0x0F) != 1)
         return URP_CONTENT;
     if (low_first(tag + CRC_AT) != basic_crc(tag, tag_len))
         return URP_CHECK;
-    if (!walk(tag, tag_len, chain))
-        return URP_BLOCK;
+    damage = walk(tag, tag_len, chain, place);
+    if (damage != URP_DONE)
+        return damage;
 
     memset(&basic, 0, sizeof basic);
     memset(&more, 0, sizeof more);
@@ -567,7 +588,7 @@ static void put_sheet(uint8_t *sheet, size_t entries, const struct content *c,
 
 uint32_t urp_read(const uint8_t *tag, size_t tag_len,
                   uint8_t *sheet, size_t sheet_len,
-                  size_t *used)
+                  size_t *used, size_t *place)
 {
     struct content c;
     struct chain chain;
@@ -576,7 +597,7 @@ uint32_t urp_read(const uint8_t *tag, size_t tag_len,
 
     if (!is_tag_size(tag_len))
         return URP_SIZE;
-    refusal = take_apart(tag, tag_len, &c, &chain);
+    refusal = take_apart(tag, tag_len, &c, &chain, place);
     if (refusal != URP_DONE)
         return refusal;
     measure(&c, &chain, &e);
@@ -828,7 +849,7 @@ uint32_t urp_edit(uint8_t *tag, size_t tag_len,
                   uint32_t number,
                   const uint8_t *value, size_t value_len,
                   uint8_t *old, size_t old_len,
-                  size_t *pages, size_t *old_used)
+                  size_t *pages, size_t *old_used, size_t *place)
 {
     struct content c;
     struct chain chain;
@@ -840,7 +861,7 @@ uint32_t urp_edit(uint8_t *tag, size_t tag_len,
 
     if (!is_tag_size(tag_len) || !is_lock_map(locks, locks_len, tag_len))
         return URP_SIZE;
-    refusal = take_apart(tag, tag_len, &c, &chain);
+    refusal = take_apart(tag, tag_len, &c, &chain, place);
     if (refusal != URP_DONE)
         return refusal;
     if (!is_own_layout(tag, tag_len, &c, &chain, image))
