@@ -76,7 +76,8 @@ fn harmless_locks(random: &mut Random, before: &[u8], after: &[u8]) -> Vec<u8> {
 
 /// The sheet of a tag in the writer's own layout.
 fn sheet_of(tag: &[u8]) -> Vec<u8> {
-    content_of(tag).and_then(|content| sheet::of_content(&content)).expect("the writer's own layout reads")
+    let content = content_of(tag).expect("the writer's own layout reads");
+    sheet::of_content(&content).expect("no offset of a tag's sheet passes 65,535")
 }
 
 fn edit_call(tag: &[u8], locks: &[u8], edit: &Edit) -> Call {
