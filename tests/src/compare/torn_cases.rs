@@ -4,7 +4,7 @@
 use super::case::{Call, Case, Outcome};
 use super::read_cases::room_for;
 use crate::generate::edits::{self, Edit};
-use crate::generate::{locks, sheets, tags};
+use crate::generate::{damaged, locks, sheets, tags};
 use crate::model::layout::layout;
 use crate::model::reading::content_of;
 use crate::model::{editing, pages, sheet};
@@ -32,7 +32,7 @@ struct Stores {
     again: Edit,
 }
 
-/// A write over a tag of another content, a loose one, an empty one, or no tag at all.
+/// A write over a tag of another content, a loose one, a damaged one, an empty one, or no tag at all.
 fn write(random: &mut Random) -> Stores {
     let before = match random.below(8) {
         0 => vec![0; tags::length(random)],
@@ -40,7 +40,8 @@ fn write(random: &mut Random) -> Stores {
             let length = tags::length(random);
             random.bytes(length)
         }
-        2 | 3 => tags::loose(random),
+        2 => tags::loose(random),
+        3 => damaged::any(random).tag,
         _ => tags::own(random),
     };
     let content = sheets::fitting(random, before.len());
