@@ -27,18 +27,25 @@ fn named_driver() -> Option<Link> {
     Some(Link::start(&command).expect("the driver that URP_DRIVER names"))
 }
 
-/// What the call leaves behind, or its refusal.
-fn outcome(call: Call) -> Result<Outcome, Refusal> {
+/// What the call leaves behind, by the model and, where there is a driver, by the library too.
+pub fn confirmed(call: Call) -> Outcome {
     let case = Case::new("a call of a test", call);
     DRIVER.with_borrow_mut(|driver| {
         if let Some(Err(line)) = driver.as_mut().map(|driver| driver.confirm(&case)) {
             panic!("{line}");
         }
     });
-    match case.expected.refusal() {
-        None => Ok(case.expected),
+    case.expected
+}
+
+/// What the call leaves behind, or its refusal.
+fn outcome(call: Call) -> Result<Outcome, Refusal> {
+    let before = call.buffers.clone();
+    let outcome = confirmed(call);
+    match outcome.refusal() {
+        None => Ok(outcome),
         Some(refusal) => {
-            assert!(case.expected.buffers == case.call.buffers, "a refusal has changed a buffer");
+            assert!(outcome.buffers == before, "a refusal has changed a buffer");
             let is_damage = refusal::DAMAGE.contains(&refusal.number);
             assert_eq!(refusal.place.is_some(), is_damage, "damage has a place, and nothing else has: {refusal:?}");
             Err(refusal)
