@@ -3,7 +3,7 @@
 use super::{tags, values};
 use crate::build::{block, hex, Draft};
 use crate::model::chain::START;
-use crate::model::refusal::{BLOCK_CHECKSUM, BLOCK_END, BLOCK_ID, BLOCK_LENGTH, BLOCK_SECOND, DAMAGE};
+use crate::model::refusal::{CHECKSUM, DAMAGE, END, ID, LENGTH, SECOND};
 use crate::random::Random;
 
 /// A tag that is refused for its chain, with the number and the place.
@@ -23,21 +23,21 @@ fn kinds() -> Vec<(u32, Vec<u8>)> {
         block
     };
     vec![
-        (BLOCK_LENGTH, hex("02")),
-        (BLOCK_LENGTH, hex("02 00")),
-        (BLOCK_END, hex("03")),
-        (BLOCK_END, hex("FF 00 00")),
-        (BLOCK_END, hex("05 01 00 04")),
-        (BLOCK_ID, hex("03 00 00")),
-        (BLOCK_ID, hex("04 00 00 04")),
-        (BLOCK_ID, hex("04 00 00 00")),
-        (BLOCK_ID, hex("03 01 00")),
-        (BLOCK_ID, hex("03 64 00")),
-        (BLOCK_CHECKSUM, wrong_sum(1)),
-        (BLOCK_CHECKSUM, wrong_sum(2)),
-        (BLOCK_CHECKSUM, wrong_sum(100)),
-        (BLOCK_SECOND, block(1, b"")),
-        (BLOCK_SECOND, block(1, &[5])),
+        (LENGTH, hex("02")),
+        (LENGTH, hex("02 00")),
+        (END, hex("03")),
+        (END, hex("FF 00 00")),
+        (END, hex("05 01 00 04")),
+        (ID, hex("03 00 00")),
+        (ID, hex("04 00 00 04")),
+        (ID, hex("04 00 00 00")),
+        (ID, hex("03 01 00")),
+        (ID, hex("03 64 00")),
+        (CHECKSUM, wrong_sum(1)),
+        (CHECKSUM, wrong_sum(2)),
+        (CHECKSUM, wrong_sum(100)),
+        (SECOND, block(1, b"")),
+        (SECOND, block(1, &[5])),
     ]
 }
 
@@ -48,10 +48,10 @@ pub fn every() -> Vec<Damaged> {
     let without = [vec![], vec![1, 1, 1], other.to_vec()];
     let mut all = Vec::new();
     for (number, damaged) in kinds() {
-        let without = without.iter().filter(|_| number != BLOCK_SECOND);
+        let without = without.iter().filter(|_| number != SECOND);
         for before in without.chain(&with_block_one) {
             all.extend([36, 64, 2048].map(|least| ending(number, before, &damaged, least)));
-            if number != BLOCK_END || damaged[0] == 255 {
+            if number != END || damaged[0] == 255 {
                 all.extend([b"", other].map(|behind| followed(number, before, &damaged, behind)));
                 all.extend(kinds().iter().map(|(_, behind)| followed(number, before, &damaged, behind)));
             }
@@ -78,9 +78,9 @@ fn followed(number: u32, before: &[u8], damaged: &[u8], behind: &[u8]) -> Damage
 /// A tag with damage of any number at any place, and any fields; other damage may stand behind it.
 pub fn any(random: &mut Random) -> Damaged {
     let number = random.pick(&DAMAGE);
-    let before = sound(random, number == BLOCK_SECOND);
+    let before = sound(random, number == SECOND);
     let damaged = damaged_block(random, number);
-    let at_end = number == BLOCK_END || random.one_in(3);
+    let at_end = number == END || random.one_in(3);
     let behind = if at_end { Vec::new() } else { anything(random) };
     let end = START + before.len() + damaged.len() + behind.len();
     let length = if random.one_in(20) { 2048 } else { end.next_multiple_of(4) };
@@ -108,11 +108,11 @@ fn damaged_block(random: &mut Random, number: u32) -> Vec<u8> {
     let more = random.below(9);
     let body = random.bytes(more);
     match number {
-        BLOCK_LENGTH => [&[2], &body[..]].concat(),
-        BLOCK_END => cut_off(random, &body),
-        BLOCK_ID if random.one_in(2) => vec![3, random.between(1, 100) as u8, 0],
-        BLOCK_ID => [&[3 + body.len() as u8, 0, 0], &body[..]].concat(),
-        BLOCK_CHECKSUM => {
+        LENGTH => [&[2], &body[..]].concat(),
+        END => cut_off(random, &body),
+        ID if random.one_in(2) => vec![3, random.between(1, 100) as u8, 0],
+        ID => [&[3 + body.len() as u8, 0, 0], &body[..]].concat(),
+        CHECKSUM => {
             let mut block = block(random.pick(&[1, 2, 99, 100]), &body);
             let place = random.between(3, block.len() - 1);
             block[place] ^= random.between(1, 255) as u8;

@@ -39,12 +39,12 @@ fn next<'a>(rest: &'a [u8], found: &[&[u8]]) -> Result<Next<'a>, u32> {
         Some(1) => return Ok(Next::Filler),
         Some(length) => usize::from(*length),
     };
-    need(length != 2, refusal::BLOCK_LENGTH)?;
-    need(length <= rest.len(), refusal::BLOCK_END)?;
+    need(length != 2, refusal::LENGTH)?;
+    need(length <= rest.len(), refusal::END)?;
     let block = &rest[..length];
-    need(id(block) != 0 && (length >= 4 || !is_structured(block)), refusal::BLOCK_ID)?;
-    need(!is_structured(block) || exclusive_or(block) == 0, refusal::BLOCK_CHECKSUM)?;
-    need(id(block) != BLOCK_ONE || found.iter().all(|other| id(other) != BLOCK_ONE), refusal::BLOCK_SECOND)?;
+    need(id(block) != 0 && (length >= 4 || !is_structured(block)), refusal::ID)?;
+    need(!is_structured(block) || exclusive_or(block) == 0, refusal::CHECKSUM)?;
+    need(id(block) != BLOCK_ONE || found.iter().all(|other| id(other) != BLOCK_ONE), refusal::SECOND)?;
     Ok(Next::Block(block))
 }
 

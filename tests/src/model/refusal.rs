@@ -13,52 +13,24 @@ pub const LARGE: u32 = 11;
 pub const LOCKED: u32 = 12;
 pub const LOOSE: u32 = 13;
 pub const OFFSET: u32 = 14;
-pub const BLOCK_LENGTH: u32 = 15;
-pub const BLOCK_END: u32 = 16;
-pub const BLOCK_ID: u32 = 17;
-pub const BLOCK_CHECKSUM: u32 = 18;
-pub const BLOCK_SECOND: u32 = 19;
+pub const LENGTH: u32 = 15;
+pub const END: u32 = 16;
+pub const ID: u32 = 17;
+pub const CHECKSUM: u32 = 18;
+pub const SECOND: u32 = 19;
 
 /// Damage in the chain, in the order in which each block is tested for it.
-pub const DAMAGE: [u32; 5] = [BLOCK_LENGTH, BLOCK_END, BLOCK_ID, BLOCK_CHECKSUM, BLOCK_SECOND];
+pub const DAMAGE: [u32; 5] = [LENGTH, END, ID, CHECKSUM, SECOND];
 
 /// "Reading: 1, 3, 4, 5, 6, 7, 14, 2", with 15 to 19 "all in 5's place".
-pub const READING: [u32; 12] = [
-    SIZE,
-    CONTENT,
-    CHECK,
-    BLOCK_LENGTH,
-    BLOCK_END,
-    BLOCK_ID,
-    BLOCK_CHECKSUM,
-    BLOCK_SECOND,
-    FIELD,
-    MISMATCH,
-    OFFSET,
-    ROOM,
-];
+pub const READING: [u32; 12] = [SIZE, CONTENT, CHECK, LENGTH, END, ID, CHECKSUM, SECOND, FIELD, MISMATCH, OFFSET, ROOM];
 
 /// "Writing: 1, 8, 9, 10, 11, 12."
 pub const WRITING: [u32; 6] = [SIZE, SHEET, VALUE, CLASH, LARGE, LOCKED];
 
 /// "Editing: 1, 3, 4, 5, 6, 7, 13, 2, 9, 10, 11, 12", with 15 to 19 "all in 5's place".
 pub const EDITING: [u32; 16] = [
-    SIZE,
-    CONTENT,
-    CHECK,
-    BLOCK_LENGTH,
-    BLOCK_END,
-    BLOCK_ID,
-    BLOCK_CHECKSUM,
-    BLOCK_SECOND,
-    FIELD,
-    MISMATCH,
-    LOOSE,
-    ROOM,
-    VALUE,
-    CLASH,
-    LARGE,
-    LOCKED,
+    SIZE, CONTENT, CHECK, LENGTH, END, ID, CHECKSUM, SECOND, FIELD, MISMATCH, LOOSE, ROOM, VALUE, CLASH, LARGE, LOCKED,
 ];
 
 /// What reading and editing refuse with: "a refusal for damage gives its number and that place, any other its number
