@@ -1,15 +1,16 @@
 //! Request E1, place and cause of damage: points 1 to 10 of its readings, each with the cases that tell it from the other
 //! way to read the words.
 
-use independent::build::{block, hex, Draft};
+use independent::build::{block, hex, repair_crc, Draft};
 use independent::compare::case::{Call, PRESET};
 use independent::generate::damaged::{self, Damaged};
-use independent::generate::locks;
+use independent::generate::{locks, tags};
 use independent::model::listing;
 use independent::random::Random;
 use independent::trial::{
-    answer, besides, confirmed, damage, edit_under, edited, is_loose, read, read_into, sheet_with, tag_with, written,
+    answer, besides, confirmed, damage, edit_under, edited, is_loose, read, read_into, sheet_with, tag_with,
 };
+use std::collections::BTreeSet;
 
 /// The damage of a tag of 64 bytes with this chain.
 fn found(chain: &[&[u8]]) -> Option<(u32, usize)> {
@@ -174,42 +175,47 @@ fn point_07_only_damage_has_a_place() {
 }
 
 #[test]
-fn point_08_15_to_19_stand_where_5_stood_and_5_is_given_by_no_call() {
+fn point_08_15_to_19_stand_where_5_stood() {
     for Damaged { tag, number, .. } in damaged::every() {
         let with = |change: &dyn Fn(&mut Vec<u8>)| {
             let mut tag = tag.clone();
             change(&mut tag);
-            (read_into(&tag, 0).err(), edit_under(&mut tag.clone(), &locks::all_locked(tag.len()), 300, b"", 0).err())
+            let locked = locks::all_locked(tag.len());
+            (read_into(&tag, 0).map(|_| ()), edit_under(&mut tag, &locked, 300, b"", 0).map(|_| ()))
         };
-        assert_eq!(with(&|_| ()), (Some(number), Some(number)), "before 13, 2, 9 and 12");
-        let repaired = |tag: &mut Vec<u8>, place: usize, byte: u8| {
+        let set = |tag: &mut Vec<u8>, place: usize, byte: u8| {
             tag[place] = byte;
-            independent::build::repair_crc(tag);
+            repair_crc(tag);
         };
-        assert_eq!(with(&|tag| repaired(tag, 3, 7)), (Some(number), Some(number)), "before 6");
-        assert_eq!(with(&|tag| repaired(tag, 3, 1)), (Some(number), Some(number)), "before 7");
-        assert_eq!(with(&|tag| tag[19] ^= 1), (Some(4), Some(4)), "after 4");
-        assert_eq!(with(&|tag| repaired(tag, 0, 0x12)), (Some(3), Some(3)), "after 3");
-        assert_eq!(with(&|tag| tag.push(0)), (Some(1), Some(1)), "after 1");
+        let both = |number: u32| (Err(number), Err(number));
+        assert_eq!(with(&|_| ()), both(number), "before 13, 2, 9 and 12");
+        assert_eq!(with(&|tag| set(tag, 3, 7)), both(number), "before 6");
+        assert_eq!(with(&|tag| set(tag, 3, 1)), both(number), "before 7");
+        assert_eq!(with(&|tag| tag[19] ^= 1), both(4), "after 4");
+        assert_eq!(with(&|tag| set(tag, 0, 0x12)), both(3), "after 3");
+        assert_eq!(with(&|tag| tag.push(0)), both(1), "after 1");
     }
+}
+
+#[test]
+fn point_08_there_is_none_in_a_sheet_nor_on_32_bytes_and_5_is_given_by_no_call() {
     for bad in [&hex("02")[..], &hex("03"), &hex("03 00 00"), &hex("03 02 00"), &hex("04 02 00 07"), &block(1, b"")] {
-        assert_eq!(written(&sheet_with(&[(255, bad)]), 64), Err(9), "writing walks no tag");
-        let writing = Call::write(sheet_with(&[(255, bad)]), vec![0; 64], locks::open(64));
-        assert_eq!(confirmed(writing).results, [PRESET]);
+        let refused = confirmed(Call::write(sheet_with(&[(255, bad)]), vec![0; 64], locks::open(64)));
+        assert_eq!((refused.answer, &refused.results[..]), (9, &[PRESET][..]), "writing walks no tag");
     }
-    // On 32 bytes there is no chain, whatever the bytes are.
     let mut random = Random::new(8);
-    for _ in 0..5_000 {
+    for _ in 0..5000 {
         let mut tag = random.bytes(32);
         tag[0] = tag[0] & 0xF0 | 1;
-        independent::build::repair_crc(&mut tag);
+        repair_crc(&mut tag);
         assert!(matches!(read(&tag), Ok(_) | Err(6 | 7)));
         assert_eq!(damage(&tag), None);
     }
-    let mut met = std::collections::BTreeSet::new();
-    for tag in (0..5_000).map(|_| independent::generate::tags::any(&mut random)) {
+    let mut met = BTreeSet::new();
+    for tag in (0..5000).map(|_| tags::any(&mut random)) {
+        let open = locks::open(tag.len());
         met.insert(answer(Call::read(tag.clone(), vec![0; 30])));
-        met.insert(answer(Call::edit(tag.clone(), locks::open(tag.len()), 1, vec![b'B'], vec![0; 255])));
+        met.insert(answer(Call::edit(tag, open, 1, vec![b'B'], vec![0; 255])));
     }
     assert!(met.is_superset(&(15..=19).collect()) && !met.contains(&5), "{met:?}");
 }
