@@ -48,7 +48,7 @@ SWAPS = [(re.compile(pattern), others.split(' ')) for pattern, others in [
     (r'\bis_ascii_alphanumeric\b', 'is_ascii_alphabetic is_ascii_graphic'),
     (r'\bto_le_bytes\b', 'to_be_bytes'),
     (r'\bfrom_le_bytes\b', 'from_be_bytes'),
-    (r'\b(?:need|sound)\(.*\)\?;$', ''),
+    (r'\bneed\(.*\)\?;$', ''),
 ]]
 NUMBER = r'(?:0x[0-9A-Fa-f_]+|\d[\d_]*)\b'
 LITERAL = re.compile(rf"b'(?:[^'\\]|\\.)'|b?\"(?:[^\"\\]|\\.)*\"|(?<![\w.]){NUMBER}|(?<=\.\.){NUMBER}|(?<=\.\.=){NUMBER}")
@@ -57,6 +57,13 @@ LITERAL = re.compile(rf"b'(?:[^'\\]|\\.)'|b?\"(?:[^\"\\]|\\.)*\"|(?<![\w.]){NUMB
 BY_HAND = [
     ('chain.rs', 'found.iter().all(|other| id(other) != BLOCK_ONE)', 'found.last().is_none_or(|other| id(other) != BLOCK_ONE)'),
     ('chain.rs', 'found.iter().all(|other| id(other) != BLOCK_ONE)', 'found.first().is_none_or(|other| id(other) != BLOCK_ONE)'),
+    ('chain.rs', 'place: Some(place)', 'place: Some(place - START)'),
+    ('chain.rs', 'place: Some(place)', 'place: None'),
+    # Each number behind the next one of the order.
+    ('chain.rs', 'need(length != 2,', 'need(length != 2 || rest.len() < 2,'),
+    ('chain.rs', 'refusal::END)', 'if rest.len() > 2 && id(rest) == 0 { refusal::ID } else { refusal::END })'),
+    ('chain.rs', 'length >= 4 || !is_structured(block)', 'length >= 4 || !is_structured(block) || exclusive_or(block) != 0'),
+    ('chain.rs', 'exclusive_or(block) == 0, ', 'exclusive_or(block) == 0 || (id(block) == BLOCK_ONE && !found.is_empty()), '),
     ('editing.rs', 'u8::try_from(number).ok()', 'Some(number as u8)'),
     ('fields.rs', 'field[end..].iter().all(|byte| *byte == 0)', 'field.last() == Some(&0)'),
     ('isil.rs', "b'/' | b'-' | b':'", "b'/' | b'-' | b':' | b'.'"),

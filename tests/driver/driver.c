@@ -5,7 +5,8 @@
    buffer (4 bytes each), the bytes of each buffer. Buffers come in the order of the call's parameters.
 
    An outcome: the answer (4 bytes), then each result and each buffer as it is afterwards, after the canary bytes that
-   stand beside it. Numbers are low byte first. A result is preset, so that one left alone is seen.
+   stand beside it. Results (used, pages, old_used, place) come in the order of the call's parameters too. Numbers are
+   low byte first. A result is preset, so that one left alone is seen.
 
    Every buffer and every result ends where a page begins that nobody may touch, or with bit 7 begins where such a page
    ends, so a step too far stops the driver. Canary bytes are on the other side. A call that does not return is stopped
@@ -39,7 +40,7 @@ extern void *memcpy(void *, const void *, size_t);
 #include "urpanella.h"
 
 enum { READ = 1, WRITE = 2, EDIT = 3 };
-enum { MOST_BUFFERS = 4, MOST_RESULTS = 2, PLACES = MOST_BUFFERS + MOST_RESULTS };
+enum { MOST_BUFFERS = 4, MOST_RESULTS = 3, PLACES = MOST_BUFFERS + MOST_RESULTS };
 enum { CANARY = 32, PRESET = 0xA5 };
 enum { BEHIND_GUARD = 0x80 };
 
@@ -193,7 +194,7 @@ static void take_work(struct work *w)
     if (w->call < READ || w->call > EDIT)
         stop("driver: a call that does not exist\n");
     w->buffers = w->call == READ ? 2 : w->call == WRITE ? 3 : 4;
-    w->results = w->call == EDIT ? 2 : 1;
+    w->results = w->call == READ ? 2 : w->call == WRITE ? 1 : 3;
     for (i = 0; i < w->buffers; i++) {
         w->length[i] = take_number();
         if (w->length[i] > ROOM - CANARY)
@@ -212,14 +213,15 @@ static uint32_t run(const struct work *w)
 {
     uint8_t *const *b = w->passed;
     const size_t *n = w->length;
+    size_t *const *r = w->result;
     alarm(URP_SECONDS);
     switch (w->call) {
     case READ:
-        return urp_read(b[0], n[0], b[1], n[1], w->result[0]);
+        return urp_read(b[0], n[0], b[1], n[1], r[0], r[1]);
     case WRITE:
-        return urp_write(b[0], n[0], b[1], n[1], b[2], n[2], w->result[0]);
+        return urp_write(b[0], n[0], b[1], n[1], b[2], n[2], r[0]);
     default:
-        return urp_edit(b[0], n[0], b[1], n[1], w->number, b[2], n[2], b[3], n[3], w->result[0], w->result[1]);
+        return urp_edit(b[0], n[0], b[1], n[1], w->number, b[2], n[2], b[3], n[3], r[0], r[1], r[2]);
     }
 }
 

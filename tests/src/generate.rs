@@ -1,5 +1,6 @@
 //! Inputs from a seed: whole, on the edge, loose and damaged.
 
+pub mod damaged;
 pub mod edits;
 pub mod locks;
 pub mod sheets;

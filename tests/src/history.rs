@@ -3,14 +3,14 @@
 use crate::generate::edits::{self, Edit};
 use crate::generate::{locks, sheets, tags};
 use crate::model::layout::layout;
-use crate::model::{editing, pages, Content, Edited};
+use crate::model::{editing, pages, Content, Edited, Refusal};
 use crate::random::Random;
 
 /// One edit and what became of it.
 pub struct Step {
     pub edit: Edit,
     pub before: Vec<u8>,
-    pub answer: Result<Edited, u32>,
+    pub answer: Result<Edited, Refusal>,
     pub after: Vec<u8>,
     /// The buffer for the old element before the edit and after it.
     pub room: Vec<u8>,

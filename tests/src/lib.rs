@@ -1,4 +1,4 @@
-//! The independent program: document 01 written down a second time, from the paper alone.
+//! The independent program: document 01 and request E1 of document 02 written down a second time, from the papers alone.
 //!
 //! - [`model`]: the reader, the writer, the editor and the listing.
 //! - [`build`], [`examples`]: bytes put together by hand, and the cases that the papers print.

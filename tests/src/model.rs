@@ -1,7 +1,8 @@
-//! Document 01's rules, each in one place. The three calls work on lent bytes, as the library's do.
+//! Document 01's rules, and request E1 of document 02, each in one place. The three calls work on lent bytes, as the
+//! library's do.
 //!
-//! What a later request changes stands alone: the text rule in [`text`], the page size in [`pages`], the answer to
-//! damage in [`chain`], the list of element numbers in [`element`].
+//! What a later request changes stands alone: the text rule in [`text`], the page size in [`pages`], the list of element
+//! numbers in [`element`].
 
 pub mod block_one;
 pub mod chain;
@@ -24,4 +25,5 @@ pub use content::Content;
 pub use editing::{editing, Edited};
 pub use listing::listing;
 pub use reading::reading;
+pub use refusal::Refusal;
 pub use writing::writing;

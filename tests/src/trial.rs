@@ -1,14 +1,15 @@
 //! The calls as the tests make them: by the model, and, where the environment variable `URP_DRIVER` names a driver (with
 //! the words that start it), by the library too, whose outcome must be the same to the byte.
 //!
-//! Each call checks on the way that a refusal leaves every lent buffer as it was, and that a buffer which is filled
-//! keeps the bytes behind the filled part.
+//! Each call checks on the way that a refusal leaves every lent buffer as it was and gives a place at 15 to 19 alone, and
+//! that a buffer which is filled keeps the bytes behind the filled part. Most give a refusal by its number; [`damage`]
+//! has the place too.
 
 use crate::build;
 use crate::compare::case::{Call, Case, Outcome};
 use crate::compare::engine::Link;
 use crate::generate::locks;
-use crate::model::{sheet, Content};
+use crate::model::{listing, refusal, sheet, Content, Refusal};
 use std::cell::RefCell;
 
 /// Elements by number, as a test lists them.
@@ -26,26 +27,40 @@ fn named_driver() -> Option<Link> {
     Some(Link::start(&command).expect("the driver that URP_DRIVER names"))
 }
 
-/// What the call leaves behind, or its refusal.
-fn outcome(call: Call) -> Result<Outcome, u32> {
+/// What the call leaves behind, by the model and, where there is a driver, by the library too.
+pub fn confirmed(call: Call) -> Outcome {
     let case = Case::new("a call of a test", call);
     DRIVER.with_borrow_mut(|driver| {
         if let Some(Err(line)) = driver.as_mut().map(|driver| driver.confirm(&case)) {
             panic!("{line}");
         }
     });
-    match case.expected.answer {
-        0 => Ok(case.expected),
-        number => {
-            assert!(case.expected.buffers == case.call.buffers, "a refusal has changed a buffer");
-            Err(number)
+    case.expected
+}
+
+/// What the call leaves behind, or its refusal.
+fn outcome(call: Call) -> Result<Outcome, Refusal> {
+    let before = call.buffers.clone();
+    let outcome = confirmed(call);
+    match outcome.refusal() {
+        None => Ok(outcome),
+        Some(refusal) => {
+            assert!(outcome.buffers == before, "a refusal has changed a buffer");
+            let is_damage = refusal::DAMAGE.contains(&refusal.number);
+            assert_eq!(refusal.place.is_some(), is_damage, "damage has a place, and nothing else has: {refusal:?}");
+            Err(refusal)
         }
     }
 }
 
+/// What the call leaves behind, or its refusal's number.
+fn numbered(call: Call) -> Result<Outcome, u32> {
+    outcome(call).map_err(|refusal| refusal.number)
+}
+
 /// The call's answer alone.
 pub fn answer(call: Call) -> u32 {
-    outcome(call).err().unwrap_or(0)
+    numbered(call).err().unwrap_or(0)
 }
 
 /// What stands in a buffer before it is filled: no byte like its neighbour.
@@ -62,7 +77,7 @@ fn filled_part(buffer: &[u8], used: u64) -> Vec<u8> {
 
 /// The tag's sheet, read into a buffer of this length.
 pub fn read_into(tag: &[u8], room: usize) -> Result<Vec<u8>, u32> {
-    let done = outcome(Call::read(tag.to_vec(), unlike_anything(room)))?;
+    let done = numbered(Call::read(tag.to_vec(), unlike_anything(room)))?;
     assert_eq!(done.buffers[0], tag, "a tag that was read has changed");
     Ok(filled_part(&done.buffers[1], done.results[0]))
 }
@@ -92,7 +107,7 @@ pub fn only(number: u8, value: &[u8]) -> Result<Elements, u32> {
 
 /// Writes the sheet onto the tag.
 pub fn write(sheet: &[u8], tag: &mut Vec<u8>, locks: &[u8]) -> Result<usize, u32> {
-    let mut done = outcome(Call::write(sheet.to_vec(), tag.clone(), locks.to_vec()))?;
+    let mut done = numbered(Call::write(sheet.to_vec(), tag.clone(), locks.to_vec()))?;
     *tag = done.buffers.swap_remove(1);
     Ok(done.results[0] as usize)
 }
@@ -112,7 +127,7 @@ pub fn edit_under(
     room: usize,
 ) -> Result<(usize, Vec<u8>), u32> {
     let call = Call::edit(tag.clone(), locks.to_vec(), number, value.to_vec(), unlike_anything(room));
-    let mut done = outcome(call)?;
+    let mut done = numbered(call)?;
     *tag = done.buffers.swap_remove(0);
     // The last buffer has taken the first one's place.
     Ok((done.results[0] as usize, filled_part(&done.buffers[0], done.results[1])))
@@ -128,6 +143,19 @@ pub fn edit(tag: &mut Vec<u8>, number: u32, value: &[u8]) -> Result<(usize, Vec<
 pub fn edited(tag: &[u8], number: u32, value: &[u8]) -> Result<Vec<u8>, u32> {
     let mut copy = tag.to_vec();
     edit(&mut copy, number, value).map(|_| copy)
+}
+
+/// The number and the place of the tag's damage; none where it has none, or is refused for another reason. Reading,
+/// editing and the listing say the same of it.
+pub fn damage(tag: &[u8]) -> Option<(u32, usize)> {
+    let found = |call: Call| outcome(call).err().and_then(|Refusal { number, place }| Some((number, place?)));
+    let read = found(Call::read(tag.to_vec(), unlike_anything(5000)));
+    let edited = found(Call::edit(tag.to_vec(), locks::open(tag.len()), 3, vec![], unlike_anything(255)));
+    assert_eq!(read, edited, "reading and editing find other damage");
+    if let Some((number, place)) = read {
+        assert_eq!(listing(tag), format!("refused {number} {place}\n"));
+    }
+    read
 }
 
 /// A sheet of these entries besides 4 (1 of 1) and 5 (main qualifier 1), each at its place.

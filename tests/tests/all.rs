@@ -11,5 +11,6 @@ mod readings_13_to_23;
 mod readings_24_to_32;
 mod readings_33_to_39;
 mod refusals;
+mod requests_e01;
 mod round_trips;
 mod slips;

@@ -1,12 +1,19 @@
 //! The generators reach what they are for.
 
 use independent::build::hex;
+use independent::generate::damaged::{self, Damaged};
 use independent::generate::{edits, locks, sheets, tags};
 use independent::model::block_one::BlockOne;
-use independent::model::refusal::{EDITING, OFFSET, READING, WRITING};
-use independent::model::{chain, editing, element, pages, reading, sheet, writing};
+use independent::model::refusal::{DAMAGE, EDITING, OFFSET, READING, WRITING};
+use independent::model::{chain, editing, element, pages, reading, sheet, writing, Refusal};
 use independent::random::Random;
+use independent::trial::damage;
 use std::collections::{BTreeMap, BTreeSet};
+
+/// 0 for a call that is done, else the refusal's number.
+fn number<T>(answer: Result<T, impl Into<Refusal>>) -> u32 {
+    answer.map_or_else(|refusal| refusal.into().number, |_| 0)
+}
 
 /// Every refusal of the order, 14 excepted, and acceptance were met at least so often.
 fn all_met(met: &BTreeMap<u32, usize>, order: &[u32], least: usize) {
@@ -28,8 +35,7 @@ fn tags_of_any_kind_meet_every_refusal_of_reading() {
     for _ in 0..20_000 {
         let tag = tags::any(&mut random);
         let room = if random.one_in(20) { 10 } else { 5000 };
-        let answer = reading(&tag, &mut vec![0; room]).err().unwrap_or(0);
-        *met.entry(answer).or_default() += 1;
+        *met.entry(number(reading(&tag, &mut vec![0; room]))).or_default() += 1;
     }
     all_met(&met, &READING, 100);
 }
@@ -41,8 +47,7 @@ fn sheets_and_lock_maps_meet_every_refusal_of_writing() {
         let length = if random.one_in(40) { tags::bad_length(&mut random) } else { tags::length(&mut random) };
         let sheet = sheets::any(&mut random, length);
         let map = locks::any(&mut random, length, 30);
-        let answer = writing(&sheet, &mut vec![0; length], &map).err().unwrap_or(0);
-        *met.entry(answer).or_default() += 1;
+        *met.entry(number(writing(&sheet, &mut vec![0; length], &map))).or_default() += 1;
     }
     all_met(&met, &WRITING, 100);
 }
@@ -56,8 +61,8 @@ fn edits_of_any_tag_meet_every_refusal_of_editing() {
         let edit = edits::any(&mut random, &content);
         let map = locks::any(&mut random, tag.len(), 40);
         let mut old = vec![0; edits::old_room(&mut random, 25)];
-        let answer = editing(&mut tag, &map, edit.number, &edit.value, &mut old).err().unwrap_or(0);
-        *met.entry(answer).or_default() += 1;
+        let answer = editing(&mut tag, &map, edit.number, &edit.value, &mut old);
+        *met.entry(number(answer)).or_default() += 1;
     }
     all_met(&met, &EDITING, 100);
 }
@@ -67,13 +72,13 @@ fn random_bytes_get_as_far_as_they_should() {
     let mut random = Random::new(28);
     let (mut tags_met, mut entries_met, mut changed_met) = (BTreeSet::new(), BTreeSet::new(), BTreeSet::new());
     for _ in 0..20_000 {
-        tags_met.insert(reading(&tags::checked(&mut random), &mut [0; 5000]).err().unwrap_or(0));
-        let written = |sheet: &[u8]| writing(sheet, &mut [0; 64], &locks::open(64)).err().unwrap_or(0);
+        tags_met.insert(number(reading(&tags::checked(&mut random), &mut [0; 5000])));
+        let written = |sheet: &[u8]| number(writing(sheet, &mut [0; 64], &locks::open(64)));
         entries_met.insert(written(&sheets::random_entries(&mut random)));
         changed_met.insert(written(&sheets::mutated(&mut random, 64)));
     }
     assert!(
-        tags_met.is_disjoint(&BTreeSet::from([1, 3, 4])) && tags_met.is_superset(&BTreeSet::from([5, 6])),
+        tags_met.is_disjoint(&BTreeSet::from([1, 3, 4])) && tags_met.is_superset(&BTreeSet::from([15, 16, 6])),
         "{tags_met:?}"
     );
     assert_eq!(entries_met.into_iter().collect::<Vec<_>>(), [0, 9, 10, 11]);
@@ -150,6 +155,64 @@ fn loose_tags_are_loose_in_every_way() {
     }
     assert!(met.len() == 8 && met.values().all(|times| *times > 100), "{met:?}");
     assert_eq!(ways_to_be_loose(&tags::own(&mut random)), Vec::<&str>::new());
+}
+
+/// Where the damaged block stands.
+fn standings(Damaged { tag, place, .. }: &Damaged) -> Vec<&'static str> {
+    let end = place + usize::from(tag[*place]);
+    let blocks_before = chain::blocks(&tag[..*place]).expect("a sound chain up to the damage");
+    let fillers = tag[34..*place].iter().rev().take_while(|byte| **byte == 1).count();
+    let standings = [
+        ("at byte 34", *place == 34),
+        ("first, behind fillers", *place > 34 && blocks_before.is_empty()),
+        ("behind a block", !blocks_before.is_empty() && fillers == 0),
+        ("behind a block and fillers", !blocks_before.is_empty() && fillers > 0),
+        ("behind a block 1", blocks_before.iter().any(|block| chain::id(block) == 1)),
+        ("before other bytes", tag.get(end).is_some_and(|byte| *byte != 0)),
+        ("before the end mark", tag.get(end) == Some(&0)),
+        ("at the tag's end", end >= tag.len()),
+        ("on the longest tag", tag.len() == 2048),
+    ];
+    standings.into_iter().filter(|(_, seen)| *seen).map(|(standing, _)| standing).collect()
+}
+
+/// Each of the damaged tags is refused as it was made to be, and each number is met wherever a block can stand: in 9
+/// ways; 16, which has nothing behind it, in 7; 19, which has a block before it, in 7.
+fn damage_is_found_and_everywhere(tags: impl Iterator<Item = Damaged>, least: usize) {
+    let mut met: BTreeMap<(u32, &str), usize> = BTreeMap::new();
+    for damaged in tags {
+        assert_eq!(damage(&damaged.tag), Some((damaged.number, damaged.place)), "{damaged:?}");
+        standings(&damaged).into_iter().for_each(|standing| *met.entry((damaged.number, standing)).or_default() += 1);
+    }
+    let ways = DAMAGE.map(|number| met.keys().filter(|(met, _)| *met == number).count());
+    assert!(ways == [9, 7, 9, 9, 7] && met.values().all(|times| *times >= least), "{met:?}");
+}
+
+#[test]
+fn every_damage_stands_everywhere() {
+    damage_is_found_and_everywhere(damaged::every().into_iter(), 1);
+}
+
+#[test]
+fn any_damage_stands_everywhere() {
+    let mut random = Random::new(29);
+    damage_is_found_and_everywhere((0..10_000).map(|_| damaged::any(&mut random)), 20);
+}
+
+#[test]
+fn damage_stands_behind_damage_of_every_number() {
+    let mut random = Random::new(30);
+    let mut met = BTreeSet::new();
+    for damaged in damaged::every().into_iter().chain((0..10_000).map(|_| damaged::any(&mut random))) {
+        // The block is mended: made a run of fillers as far as its length goes, or as far as the tag does.
+        let Damaged { mut tag, number, place } = damaged;
+        let end = tag.len().min(place + usize::from(tag[place]));
+        tag[place..end].fill(1);
+        met.extend(damage(&tag).map(|(behind, _)| (number, behind)));
+    }
+    let pairs = DAMAGE.iter().flat_map(|first| DAMAGE.map(|second| (*first, second)));
+    assert_eq!(met.len(), 25 - 5, "{met:?}");
+    assert!(pairs.filter(|(first, _)| *first != 16).all(|pair| met.contains(&pair)), "{met:?}");
 }
 
 #[test]

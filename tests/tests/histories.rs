@@ -31,7 +31,7 @@ fn after_each_edit_the_law_holds_and_the_way_back_restores_all() {
         go_back(&history);
         for step in &history.steps {
             assert!(!is_loose(&step.after));
-            *met.entry(step.answer.err().unwrap_or(0)).or_default() += 1;
+            *met.entry(step.answer.err().map_or(0, |refusal| refusal.number)).or_default() += 1;
         }
     }
     for number in [0, 2, 9, 10, 11, 12] {

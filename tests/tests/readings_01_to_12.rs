@@ -3,7 +3,7 @@
 use independent::build::{self, block, Draft};
 use independent::generate::locks;
 use independent::trial::{
-    besides, edit, edit_under, edited, elements, is_loose, only, read, sheet_with, tag_with, write, written,
+    besides, damage, edit, edit_under, edited, elements, is_loose, only, read, sheet_with, tag_with, write, written,
 };
 
 /// A block 1 with nothing but this owner.
@@ -51,15 +51,19 @@ fn reading_02_a_32_byte_tag_takes_8_lock_bytes_and_a_2_is_refused_before_all_els
 #[test]
 fn reading_03_an_earlier_number_over_the_whole_input_comes_before_a_later_one() {
     let damage_last = Draft::default().item(b"\0x").chain(&[&[1, 1, 1, 2]]).tag(40);
-    assert_eq!(read(&damage_last), Err(5), "a bad item field stands before the damage, but 5 comes before 6");
+    assert_eq!(
+        damage(&damage_last),
+        Some((15, 37)),
+        "a bad item field stands before the damage, but 15 comes before 6"
+    );
     assert_eq!(read(&Draft::default().item(b"\0x").tag(40)), Err(6));
 
     let usage_disagrees = block(1, &[0, 0, 0, 0x25]);
     let draft = Draft::default().chain(&[&usage_disagrees]);
     assert_eq!(read(&draft.tag(44)), Err(7));
     assert_eq!(read(&Draft { ordinal: 2, ..draft.clone() }.tag(44)), Err(6));
-    let bad_owner_too = [&usage_disagrees[..], &block(2, b"").repeat(2), &[2]].concat();
-    assert_eq!(read(&draft.chain(&[&bad_owner_too]).tag(64)), Err(5));
+    let damage_too = [&usage_disagrees[..], &block(2, b"").repeat(2), &[2]].concat();
+    assert_eq!(damage(&draft.chain(&[&damage_too]).tag(64)), Some((15, 34 + 8 + 2 * 4)));
 
     let mut bad_first_value = build::sheet(&[(1, b""), (4, &[1, 0, 1, 0]), (5, &[0x10])]);
     assert_eq!(written(&bad_first_value, 36), Err(9));

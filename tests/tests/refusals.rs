@@ -5,7 +5,7 @@ use independent::build::{self, block, Draft};
 use independent::generate::locks;
 use independent::model::refusal::{name, EDITING, OFFSET, READING, WRITING};
 use independent::model::sheet;
-use independent::trial::{carrying, edit_under, edited, read, read_into, sheet_with, tag_with, write, written};
+use independent::trial::{carrying, damage, edit_under, edited, read, read_into, sheet_with, tag_with, write, written};
 
 /// Tags of 64 bytes, each with one fault, and the refusal that reading and editing give for it.
 fn faulty_tags() -> Vec<(u32, Vec<u8>)> {
@@ -16,12 +16,12 @@ fn faulty_tags() -> Vec<(u32, Vec<u8>)> {
         (1, plain.tag(66)),
         (3, Draft { first: 0x12, ..plain.clone() }.tag(64)),
         (4, wrong_crc),
-        (5, plain.clone().chain(&[&[2]]).tag(64)),
-        (5, plain.clone().chain(&[&[31, 101, 0]]).tag(64)),
-        (5, plain.clone().chain(&[&block(0, b"")]).tag(64)),
-        (5, plain.clone().chain(&[&[3, 100, 0]]).tag(64)),
-        (5, plain.clone().chain(&[&[4, 100, 0, 0]]).tag(64)),
-        (5, plain.clone().chain(&[&block(1, b""), &block(1, b"")]).tag(64)),
+        (15, plain.clone().chain(&[&[2]]).tag(64)),
+        (16, plain.clone().chain(&[&[31, 101, 0]]).tag(64)),
+        (17, plain.clone().chain(&[&block(0, b"")]).tag(64)),
+        (17, plain.clone().chain(&[&[3, 100, 0]]).tag(64)),
+        (18, plain.clone().chain(&[&[4, 100, 0, 0]]).tag(64)),
+        (19, plain.clone().chain(&[&block(1, b""), &block(1, b"")]).tag(64)),
         (6, Draft { ordinal: 2, ..plain.clone() }.tag(64)),
         (6, plain.clone().item(&[7]).tag(64)),
         (6, plain.clone().owner(b"DK").tag(64)),
@@ -33,11 +33,21 @@ fn faulty_tags() -> Vec<(u32, Vec<u8>)> {
     ]
 }
 
+/// A chain that fills 64 bytes: a block 1, fillers, and four bytes at the end, from byte 60 on.
+fn chain_up_to(end: [u8; 4]) -> Vec<u8> {
+    [&block(1, &[5])[..], &[1; 21], &end].concat()
+}
+
+/// The ends of such a chain that are refused 15, 16, 17, 18 and 19, each with one fault less.
+const MENDED: [[u8; 4]; 5] = [[2, 0, 0, 0], [5, 0, 0, 0], [4, 0, 0, 0], [4, 1, 0, 0], [4, 1, 0, 5]];
+
 #[test]
 fn reading_gives_each_refusal() {
-    assert_eq!(READING, [1, 3, 4, 5, 6, 7, 14, 2]);
+    assert_eq!(READING, [1, 3, 4, 15, 16, 17, 18, 19, 6, 7, 14, 2]);
     for (number, tag) in faulty_tags() {
         assert_eq!(read(&tag), Err(number));
+        let place = if number == 19 { 38 } else { 34 };
+        assert_eq!(damage(&tag), (15..=19).contains(&number).then_some((number, place)));
     }
     let tag = tag_with(&[], 36);
     assert_eq!(read_into(&tag, 14), Err(2));
@@ -47,14 +57,15 @@ fn reading_gives_each_refusal() {
 
 #[test]
 fn the_numbers_have_the_words_of_the_table() {
-    let table =
-        "accepted Size Room Content Check Block Field Mismatch Sheet Value Clash Large Locked Loose Offset unknown";
-    assert_eq!((0..=15).map(name).collect::<Vec<_>>().join(" "), table);
+    let table = "accepted Size Room Content Check retired Field Mismatch Sheet Value Clash Large Locked Loose Offset \
+                 Length End ID Checksum Second unknown";
+    assert_eq!((0..=20).map(name).collect::<Vec<_>>().join(" "), table);
 }
 
 #[test]
 fn reading_with_all_faults_at_once_gives_them_in_order() {
-    let mut draft = Draft { first: 0x12, ordinal: 2, ..Draft::default() }.owner(&[0, 0, 1]).chain(&[&[0x02]]);
+    let mut draft = Draft { first: 0x12, ordinal: 2, ..Draft::default() }.owner(&[0, 0, 1]);
+    draft.chain = chain_up_to(MENDED[0]);
     let break_crc = |mut tag: Vec<u8>| {
         tag[19] ^= 0xFF;
         tag
@@ -63,14 +74,17 @@ fn reading_with_all_faults_at_once_gives_them_in_order() {
     met.push(read_into(&break_crc(draft.tag(64)), 0));
     draft.first = 0x11;
     met.push(read_into(&break_crc(draft.tag(64)), 0));
-    met.push(read_into(&draft.tag(64), 0));
+    for end in MENDED {
+        draft.chain = chain_up_to(end);
+        met.push(read_into(&draft.tag(64), 0));
+    }
     draft.chain.clear();
     met.push(read_into(&draft.tag(64), 0));
     draft.ordinal = 1;
     met.push(read_into(&draft.tag(64), 0));
     draft.owner.clear();
     met.push(read_into(&draft.tag(64), 0));
-    assert_eq!(met, [1, 3, 4, 5, 6, 7, 2].map(Err));
+    assert_eq!(met, [1, 3, 4, 15, 16, 17, 18, 19, 6, 7, 2].map(Err));
     assert!(read(&draft.tag(64)).is_ok());
 }
 
@@ -113,7 +127,7 @@ fn writing_with_all_faults_at_once_gives_them_in_order() {
 
 #[test]
 fn editing_gives_each_refusal() {
-    assert_eq!(EDITING, [1, 3, 4, 5, 6, 7, 13, 2, 9, 10, 11, 12]);
+    assert_eq!(EDITING, [1, 3, 4, 15, 16, 17, 18, 19, 6, 7, 13, 2, 9, 10, 11, 12]);
     for (number, tag) in faulty_tags() {
         assert_eq!(edited(&tag, 1, b"B1"), Err(number));
     }
@@ -137,8 +151,8 @@ fn editing_gives_each_refusal() {
 
 #[test]
 fn editing_with_all_faults_at_once_gives_them_in_order() {
-    let filler = [1];
-    let mut draft = Draft { first: 0x12, ordinal: 2, ..Draft::default() }.owner(&[0, 0, 1]).chain(&[&filler, &[2]]);
+    let mut draft = Draft { first: 0x12, ordinal: 2, ..Draft::default() }.owner(&[0, 0, 1]);
+    draft.chain = chain_up_to(MENDED[0]);
     let break_crc = |mut tag: Vec<u8>| {
         tag[19] ^= 0xFF;
         tag
@@ -149,8 +163,11 @@ fn editing_with_all_faults_at_once_gives_them_in_order() {
     met.push(bad(break_crc(draft.tag(64)), 0));
     draft.first = 0x11;
     met.push(bad(break_crc(draft.tag(64)), 0));
-    met.push(bad(draft.tag(64), 0));
-    draft.chain.pop();
+    for end in MENDED {
+        draft.chain = chain_up_to(end);
+        met.push(bad(draft.tag(64), 0));
+    }
+    draft.chain = chain_up_to([1; 4]);
     met.push(bad(draft.tag(64), 0));
     draft.ordinal = 1;
     met.push(bad(draft.tag(64), 0));

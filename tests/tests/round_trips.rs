@@ -97,7 +97,7 @@ fn any_single_change_of_the_basic_block_is_refused() {
             changed[place] ^= random.between(1, 255) as u8;
             assert!(read(&changed).is_err(), "byte {place}");
             build::repair_crc(&mut changed);
-            assert_ne!(content_of(&changed), Err(4), "the CRC is repaired");
+            assert_ne!(content_of(&changed), Err(4.into()), "the CRC is repaired");
         }
     }
 }

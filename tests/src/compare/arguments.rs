@@ -1,7 +1,8 @@
 //! What the command line asks for.
 
 use crate::model::refusal::{
-    self, BLOCK, CHECK, CLASH, CONTENT, EDITING, FIELD, LARGE, LOCKED, LOOSE, MISMATCH, OFFSET, READING, VALUE, WRITING,
+    self, CHECK, CLASH, CONTENT, DAMAGE, EDITING, FIELD, LARGE, LOCKED, LOOSE, MISMATCH, OFFSET, READING, VALUE,
+    WRITING,
 };
 
 pub const USAGE: &str =
@@ -54,17 +55,19 @@ impl Subject {
 
     /// The refusals that a run has to meet. 14 is left out, since no tag gives it.
     pub fn to_be_met(self) -> Vec<u32> {
-        let all: &[u32] = match self {
-            Subject::Read => &READING,
-            Subject::Write => &WRITING,
-            Subject::Edit => &EDITING,
-            Subject::Histories => &[refusal::ROOM, VALUE, CLASH, LARGE, LOCKED],
-            Subject::Torn => &[CHECK, BLOCK, MISMATCH, LOOSE, VALUE, CLASH, LARGE, LOCKED],
-            Subject::Changed => &[refusal::ROOM, CONTENT, CHECK, BLOCK, FIELD, MISMATCH, LOOSE, LOCKED],
+        let all = match self {
+            Subject::Read => READING.to_vec(),
+            Subject::Write => WRITING.to_vec(),
+            Subject::Edit => EDITING.to_vec(),
+            Subject::Histories => vec![refusal::ROOM, VALUE, CLASH, LARGE, LOCKED],
+            Subject::Torn => [&[CHECK], &DAMAGE[..], &[MISMATCH, LOOSE, VALUE, CLASH, LARGE, LOCKED]].concat(),
+            Subject::Changed => {
+                [&[refusal::ROOM, CONTENT, CHECK], &DAMAGE[..], &[FIELD, MISMATCH, LOOSE, LOCKED]].concat()
+            }
             // Its parts are judged each by itself.
-            Subject::Faults | Subject::Taglist => &[],
+            Subject::Faults | Subject::Taglist => Vec::new(),
         };
-        all.iter().copied().filter(|number| *number != OFFSET).collect()
+        all.into_iter().filter(|number| *number != OFFSET).collect()
     }
 }
 

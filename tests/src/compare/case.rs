@@ -1,12 +1,12 @@
 //! One call, what it must leave behind, and both as the driver frames them.
 
-use crate::model::{self, listing::capital_hex};
+use crate::model::{self, listing::capital_hex, Refusal};
 
 /// How many canary bytes the driver has beside each buffer and each result.
 const CANARY: usize = 32;
 
-/// What a result holds before the call.
-const PRESET: u64 = 0xA5A5_A5A5_A5A5_A5A5;
+/// What a result holds before the call, and afterwards where it is left alone.
+pub const PRESET: u64 = 0xA5A5_A5A5_A5A5_A5A5;
 
 #[derive(Clone, Copy, PartialEq, Eq)]
 pub enum Kind {
@@ -74,30 +74,34 @@ impl Call {
         Call { kind: Kind::Edit, number, buffers: vec![tag, locks, value, old] }
     }
 
-    /// The outcome by the model.
+    /// The outcome by the model. A call that is done writes every result but the place; a refusal writes none but that.
     pub fn outcome(&self) -> Outcome {
         let mut buffers = self.buffers.clone();
-        let answer = match (self.kind, &mut buffers[..]) {
+        let done = match (self.kind, &mut buffers[..]) {
             (Kind::Read, [tag, sheet]) => model::reading(tag, sheet).map(|used| vec![used]),
-            (Kind::Write, [sheet, tag, locks]) => model::writing(sheet, tag, locks).map(|pages| vec![pages]),
+            (Kind::Write, [sheet, tag, locks]) => {
+                model::writing(sheet, tag, locks).map(|pages| vec![pages]).map_err(Refusal::from)
+            }
             (Kind::Edit, [tag, locks, value, old]) => {
                 model::editing(tag, locks, self.number, value, old).map(|edited| vec![edited.pages, edited.old_length])
             }
             _ => unreachable!("the constructors give each call its buffers"),
         };
-        let left_alone = vec![PRESET; self.result_names().len()];
-        let (answer, results) = match answer {
-            Ok(results) => (0, results.into_iter().map(|result| result as u64).collect()),
-            Err(number) => (number, left_alone),
+        let mut results = vec![PRESET; self.result_names().len()];
+        let (answer, first, written) = match done {
+            Ok(given) => (0, 0, given),
+            Err(Refusal { number, place }) => (number, results.len() - 1, place.into_iter().collect()),
         };
+        results.iter_mut().skip(first).zip(written).for_each(|(result, value)| *result = value as u64);
         Outcome { answer, results, buffers }
     }
 
+    /// The results in the order of the C parameters. The place is the last one, where there is one.
     fn result_names(&self) -> &'static [&'static str] {
         match self.kind {
-            Kind::Read => &["used"],
+            Kind::Read => &["used", "place"],
             Kind::Write => &["pages"],
-            Kind::Edit => &["pages", "old_used"],
+            Kind::Edit => &["pages", "old_used", "place"],
         }
     }
 
@@ -153,6 +157,12 @@ fn canary() -> [u8; CANARY] {
 }
 
 impl Outcome {
+    /// The refusal, where this is the outcome of one. No result but the place is written then.
+    pub fn refusal(&self) -> Option<Refusal> {
+        let place = self.results.iter().find(|result| **result != PRESET).map(|place| *place as usize);
+        (self.answer != 0).then_some(Refusal { number: self.answer, place })
+    }
+
     /// The outcome as the driver frames it.
     pub fn frame(&self) -> Vec<u8> {
         let mut frame = self.answer.to_le_bytes().to_vec();

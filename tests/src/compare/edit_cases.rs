@@ -6,7 +6,7 @@ use super::taglist;
 use crate::alphabets::{self, Place};
 use crate::build::Draft;
 use crate::examples;
-use crate::generate::{edits, locks, tags};
+use crate::generate::{damaged, edits, locks, tags};
 use crate::model::element::SINGLE;
 use crate::model::layout::layout;
 use crate::model::pages;
@@ -16,7 +16,7 @@ use crate::random::Random;
 /// The fixed cases and so many random ones.
 pub fn all(seed: u64, count: usize) -> impl Iterator<Item = Case> + Send {
     let edits = numbers().chain(value_lengths()).chain(old_rooms()).chain(alphabets::cases(Place::edit));
-    let tags = lengths().chain(refused()).chain(locked());
+    let tags = lengths().chain(refused()).chain(damaged()).chain(locked());
     edits.chain(tags).chain(random(seed, count))
 }
 
@@ -87,6 +87,12 @@ fn refused() -> impl Iterator<Item = Case> + Send {
     let loose = [Draft::default().chain(&[&[1]]).tag(36), Draft::default().chain(&[&[0, 7]]).tag(40)];
     let tags = taglist::fixed().into_iter().chain(loose);
     tags.map(|tag| on_open("tags of each refusal", tag, 1, b"B1", 255))
+}
+
+/// Every damage of a chain.
+fn damaged() -> impl Iterator<Item = Case> + Send {
+    let tags = damaged::every().into_iter().map(|damaged| damaged.tag);
+    tags.map(|tag| on_open("every damage at every block", tag, 1, b"B1", 255))
 }
 
 /// Each page locked by itself, under an edit that changes most of them and one that changes few.

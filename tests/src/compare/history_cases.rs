@@ -1,6 +1,6 @@
 //! Cases of many edits of one tag, each followed by a reading, and of the way back.
 
-use super::case::{Call, Case, Outcome};
+use super::case::{Call, Case, Outcome, PRESET};
 use crate::history::{history, History, Step};
 use crate::random::Random;
 
@@ -41,7 +41,7 @@ fn way_back(history: &History, step: &Step) -> Option<Case> {
     let call = Call::edit(step.after.clone(), history.locks.clone(), back.number, back.value.clone(), room);
     let expected = Outcome {
         answer: 0,
-        results: vec![edited.pages as u64, set.len() as u64],
+        results: vec![edited.pages as u64, set.len() as u64, PRESET],
         buffers: vec![step.before.clone(), history.locks.clone(), back.value, old],
     };
     Some(Case { group: "way back, newest first", call, expected })

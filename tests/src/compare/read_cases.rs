@@ -5,13 +5,14 @@ use super::taglist;
 use crate::alphabets::{self, Place};
 use crate::build::{self, Draft};
 use crate::examples;
-use crate::generate::tags;
+use crate::generate::{damaged, tags};
 use crate::model::{element, reading, sheet, Content};
 use crate::random::Random;
 
 /// The fixed cases and so many random ones.
 pub fn all(seed: u64, count: usize) -> impl Iterator<Item = Case> + Send {
-    published().chain(refused()).chain(lengths()).chain(alphabets::cases(Place::read)).chain(random(seed, count))
+    let fixed = published().chain(refused()).chain(damaged()).chain(lengths()).chain(alphabets::cases(Place::read));
+    fixed.chain(random(seed, count))
 }
 
 /// Random bytes, random bytes that pass 4, and tags of any kind.
@@ -53,6 +54,14 @@ fn refused() -> impl Iterator<Item = Case> + Send {
     taglist::fixed().into_iter().map(|tag| {
         let room = room_for(&tag);
         Case::new("tags of each refusal", Call::read(tag, vec![0xEE; room]))
+    })
+}
+
+/// Every damage of a chain.
+fn damaged() -> impl Iterator<Item = Case> + Send {
+    damaged::every().into_iter().map(|damaged| {
+        let call = Call::read(damaged.tag, vec![0xEE; 64]);
+        Case::new("every damage at every block", call)
     })
 }
 

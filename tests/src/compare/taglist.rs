@@ -35,7 +35,11 @@ pub fn fixed() -> Vec<Vec<u8>> {
     inputs.extend([vec![], vec![0; 36], vec![0x11; 36], vec![0xFF; 2048], vec![0x11; 2049], vec![0; 5000]]);
     inputs.push([&examples::b2().tag[..], b"\n"].concat());
     inputs.extend(about_the_longest());
-    inputs.push(plain.clone().chain(&[&[2, 0]]).tag(40));
+    inputs.push(plain.clone().chain(&[&[1, 2]]).tag(36));
+    inputs.push(plain.clone().chain(&[&[1, 3]]).tag(36));
+    inputs.push(plain.clone().chain(&[&[1; 2013], &[255]]).tag(2048));
+    inputs.push(plain.clone().chain(&[&[1, 1, 3, 100, 0]]).tag(40));
+    inputs.push(plain.clone().chain(&[&block(300, &[7; 99]), &[4, 2, 0, 7]]).tag(140));
     inputs.push(plain.clone().chain(&[&block(1, &[5]), &block(2, b"a"), &block(1, &[5])]).tag(64));
     inputs.push(plain.clone().owner(b"DK").tag(36));
     inputs.push(plain.clone().owner(&[0, 0, 1]).tag(36));

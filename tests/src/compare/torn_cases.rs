@@ -4,7 +4,7 @@
 use super::case::{Call, Case, Outcome};
 use super::read_cases::room_for;
 use crate::generate::edits::{self, Edit};
-use crate::generate::{locks, sheets, tags};
+use crate::generate::{damaged, locks, sheets, tags};
 use crate::model::layout::layout;
 use crate::model::reading::content_of;
 use crate::model::{editing, pages, sheet};
@@ -32,7 +32,7 @@ struct Stores {
     again: Edit,
 }
 
-/// A write over a tag of another content, a loose one, an empty one, or no tag at all.
+/// A write over a tag of another content, a loose one, a damaged one, an empty one, or no tag at all.
 fn write(random: &mut Random) -> Stores {
     let before = match random.below(8) {
         0 => vec![0; tags::length(random)],
@@ -40,7 +40,8 @@ fn write(random: &mut Random) -> Stores {
             let length = tags::length(random);
             random.bytes(length)
         }
-        2 | 3 => tags::loose(random),
+        2 => tags::loose(random),
+        3 => damaged::any(random).tag,
         _ => tags::own(random),
     };
     let content = sheets::fitting(random, before.len());
@@ -76,7 +77,8 @@ fn harmless_locks(random: &mut Random, before: &[u8], after: &[u8]) -> Vec<u8> {
 
 /// The sheet of a tag in the writer's own layout.
 fn sheet_of(tag: &[u8]) -> Vec<u8> {
-    content_of(tag).and_then(|content| sheet::of_content(&content)).expect("the writer's own layout reads")
+    let content = content_of(tag).expect("the writer's own layout reads");
+    sheet::of_content(&content).expect("no offset of a tag's sheet passes 65,535")
 }
 
 fn edit_call(tag: &[u8], locks: &[u8], edit: &Edit) -> Call {

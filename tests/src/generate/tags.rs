@@ -1,6 +1,6 @@
 //! Tags: in the writer's own layout, loose, of freely mixed fields, with a freely mixed chain, and damaged.
 
-use super::{sheets, values};
+use super::{damaged, sheets, values};
 use crate::build::{self, Draft};
 use crate::model::element::{ISIL, OTHER_OWNER};
 use crate::model::layout::layout;
@@ -82,7 +82,7 @@ pub fn loose(random: &mut Random) -> Vec<u8> {
 }
 
 /// Set information and usage by chance.
-fn draft(random: &mut Random) -> Draft {
+pub(super) fn draft(random: &mut Random) -> Draft {
     let parts = random.byte();
     let ordinal = random.below(usize::from(parts) + 1) as u8;
     Draft { first: random.byte() & 0xF0 | 1, parts, ordinal, ..Draft::default() }
@@ -140,14 +140,20 @@ fn finished(random: &mut Random, mut draft: Draft) -> Vec<u8> {
     draft.tag(length)
 }
 
-/// A tag whose fields are drawn each by itself, good or bad: most are refused for a field or a mismatch.
-pub fn mixed(random: &mut Random) -> Vec<u8> {
+/// The basic block's fields, each drawn by itself, good or bad.
+pub(super) fn mixed_draft(random: &mut Random) -> Draft {
     let mut draft = draft(random);
     if random.one_in(12) {
         draft.ordinal = random.byte();
     }
     draft.item = mixed_item(random);
     draft.owner = mixed_owner(random);
+    draft
+}
+
+/// A tag whose fields are drawn each by itself, good or bad: most are refused for a field or a mismatch.
+pub fn mixed(random: &mut Random) -> Vec<u8> {
+    let mut draft = mixed_draft(random);
     let mut inside = Inside::default();
     if random.one_in(2) {
         inside.media = random.byte();
@@ -288,7 +294,8 @@ pub fn any(random: &mut Random) -> Vec<u8> {
         0..=6 => own(random),
         7..=10 => loose(random),
         11..=14 => mixed(random),
-        15..=17 => mixed_chain(random),
+        15 | 16 => mixed_chain(random),
+        17 => damaged::any(random).tag,
         18 => checked(random),
         _ => {
             let length = bad_length(random);

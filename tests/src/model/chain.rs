@@ -1,6 +1,6 @@
 //! "The chain of blocks (001, clause 7)".
 
-use super::refusal::{self, need};
+use super::refusal::{self, need, Refusal};
 
 /// "Blocks start at byte 34."
 pub const START: usize = 34;
@@ -15,40 +15,36 @@ enum Next<'a> {
     Block(&'a [u8]),
 }
 
-/// All blocks in tag order, block 1 among them and fillers not; refused where there is damage anywhere in the chain.
-pub fn blocks(tag: &[u8]) -> Result<Vec<&[u8]>, u32> {
+/// All blocks in tag order, block 1 among them and fillers not; refused at the first damaged one, which gives its place.
+pub fn blocks(tag: &[u8]) -> Result<Vec<&[u8]>, Refusal> {
     let mut found: Vec<&[u8]> = Vec::new();
-    let mut rest = tag.get(START..).unwrap_or(&[]);
+    let mut place = START;
     loop {
-        match next(rest)? {
+        let rest = tag.get(place..).unwrap_or(&[]);
+        match next(rest, &found).map_err(|number| Refusal { number, place: Some(place) })? {
             Next::End => return Ok(found),
-            Next::Filler => rest = &rest[1..],
+            Next::Filler => place += 1,
             Next::Block(block) => {
-                sound(id(block) != BLOCK_ONE || found.iter().all(|other| id(other) != BLOCK_ONE))?;
                 found.push(block);
-                rest = &rest[block.len()..];
+                place += block.len();
             }
         }
     }
 }
 
-/// The one place that answers damage.
-fn sound(holds: bool) -> Result<(), u32> {
-    need(holds, refusal::BLOCK)
-}
-
-/// Judges the beginning of what is left of a tag.
-fn next(rest: &[u8]) -> Result<Next<'_>, u32> {
+/// Judges the beginning of what is left of a tag, behind these blocks: 15 to 19, "tested in that order at each block".
+fn next<'a>(rest: &'a [u8], found: &[&[u8]]) -> Result<Next<'a>, u32> {
     let length = match rest.first() {
         None | Some(0) => return Ok(Next::End),
         Some(1) => return Ok(Next::Filler),
         Some(length) => usize::from(*length),
     };
-    sound(length != 2)?;
-    sound(length <= rest.len())?;
+    need(length != 2, refusal::LENGTH)?;
+    need(length <= rest.len(), refusal::END)?;
     let block = &rest[..length];
-    sound(id(block) != 0 && (length >= 4 || !is_structured(block)))?;
-    sound(!is_structured(block) || exclusive_or(block) == 0)?;
+    need(id(block) != 0 && (length >= 4 || !is_structured(block)), refusal::ID)?;
+    need(!is_structured(block) || exclusive_or(block) == 0, refusal::CHECKSUM)?;
+    need(id(block) != BLOCK_ONE || found.iter().all(|other| id(other) != BLOCK_ONE), refusal::SECOND)?;
     Ok(Next::Block(block))
 }
 
@@ -69,5 +65,5 @@ pub fn exclusive_or(block: &[u8]) -> u8 {
 
 /// "a carried block, whole and well formed, no filler, ID not 1"
 pub fn is_carried(value: &[u8]) -> bool {
-    matches!(next(value), Ok(Next::Block(block)) if block.len() == value.len() && id(block) != BLOCK_ONE)
+    matches!(next(value, &[]), Ok(Next::Block(block)) if block.len() == value.len() && id(block) != BLOCK_ONE)
 }

@@ -3,7 +3,7 @@
 use super::element::{self, ALWAYS, SINGLE};
 use super::layout::layout;
 use super::reading::content_of;
-use super::refusal::{self, need};
+use super::refusal::{self, need, Refusal};
 use super::writing::{judge_sizes, lay_down};
 
 /// "an old-element buffer under 255 bytes" is too short.
@@ -17,7 +17,7 @@ pub struct Edited {
 }
 
 /// "Editing takes a number other than 255 and new bytes; no bytes means remove."
-pub fn editing(tag: &mut [u8], locks: &[u8], number: u32, value: &[u8], old: &mut [u8]) -> Result<Edited, u32> {
+pub fn editing(tag: &mut [u8], locks: &[u8], number: u32, value: &[u8], old: &mut [u8]) -> Result<Edited, Refusal> {
     judge_sizes(tag, locks)?;
     let mut content = content_of(tag)?;
     need(layout(&content, tag.len()).as_deref() == Some(&*tag), refusal::LOOSE)?;

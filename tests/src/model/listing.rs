@@ -1,14 +1,17 @@
 //! What `taglist` prints for the bytes on its standard input.
 
 use super::reading::content_of;
+use super::refusal::Refusal;
 use super::sheet;
 
-/// "elements N", then for each entry its number, a blank and its bytes in capital hex; or "refused K".
+/// "elements N", then for each entry its number, a blank and its bytes in capital hex; or "refused K", with the place
+/// of damage "after the number and a blank, in decimal".
 pub fn listing(input: &[u8]) -> String {
-    let sheet = content_of(input).and_then(|content| sheet::of_content(&content));
+    let sheet = content_of(input).and_then(|content| Ok(sheet::of_content(&content)?));
     match sheet {
         Ok(sheet) => entries(&sheet),
-        Err(number) => format!("refused {number}\n"),
+        Err(Refusal { number, place: None }) => format!("refused {number}\n"),
+        Err(Refusal { number, place: Some(place) }) => format!("refused {number} {place}\n"),
     }
 }
 

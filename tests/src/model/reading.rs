@@ -4,19 +4,19 @@ use super::block_one::BlockOne;
 use super::chain::{self, BLOCK_ONE};
 use super::element::{self, MEDIA, OTHER_ITEM, PRIMARY, SET, USAGE};
 use super::fields::{read_item, read_owner, Field};
-use super::refusal::{self, need};
+use super::refusal::{self, need, Refusal};
 use super::{crc, pages, sheet, Content};
 
 /// "Reading gives the sheet's length, fills just that much and changes nothing else."
-pub fn reading(tag: &[u8], buffer: &mut [u8]) -> Result<usize, u32> {
+pub fn reading(tag: &[u8], buffer: &mut [u8]) -> Result<usize, Refusal> {
     let sheet = sheet::of_content(&content_of(tag)?)?;
     need(buffer.len() >= sheet.len(), refusal::ROOM)?;
     buffer[..sheet.len()].copy_from_slice(&sheet);
     Ok(sheet.len())
 }
 
-/// What a tag says, or its refusal among 1, 3, 4, 5, 6 and 7.
-pub fn content_of(tag: &[u8]) -> Result<Content, u32> {
+/// What a tag says, or its refusal among 1, 3, 4, 15 to 19, 6 and 7.
+pub fn content_of(tag: &[u8]) -> Result<Content, Refusal> {
     need(pages::is_tag_length(tag.len(), pages::PAGE), refusal::SIZE)?;
     need(tag[0] & 0x0F == 1, refusal::CONTENT)?;
     need(crc::stored(tag) == crc::of_tag(tag), refusal::CHECK)?;
