@@ -91,22 +91,13 @@ pub fn id_of(block: &[u8]) -> usize
     byte_at(block, 1) + 256 * byte_at(block, 2)
 }
 
-// The number of the damage of a block whose length is not 2, 0 for none: 16 to 19, tested in this order. `x` is the XOR of the bytes behind
-// the first; it is looked at only where the block is structured, and is the first byte where the XOR of the whole block is 00. `seen`: a
-// block 1 came before.
-fn damage_by(block: &[u8], x: u8, seen: bool) -> u32
-    ensures { λ r. ⌜ r ≡ damageBy x seen (now (block .entry)) ⌝ }
+// The number of the damage of a structured block, 0 for none: 17 to 19, tested in this order. It has n bytes, as it says; `x` is the XOR of
+// those behind the first, which is the first where the XOR of the whole block is 00. `seen`: a block 1 came before.
+fn damage_by(n: usize, id: usize, x: u8, seen: bool) -> u32
+    ensures { λ r. ⌜ r ≡ damageBy n id x seen ⌝ }
 {
-    let n = byte_at(block, 0);
-    if n != block.len() {
-        return 16;
-    }
-    let id = id_of(block);
     if id == 0 {
         return 17;
-    }
-    if 100 < id {
-        return 0;
     }
     if n < 4 {
         return 17;
@@ -120,14 +111,22 @@ fn damage_by(block: &[u8], x: u8, seen: bool) -> u32
     0
 }
 
-// Is the block well formed? `x` as above.
+// Is the block well formed? `x` as above; it is looked at only where the block is structured.
 pub fn formed_by(block: &[u8], x: u8) -> bool
     ensures { λ r. ⌜ r ≡ formedBy x (now (block .entry)) ⌝ }
 {
     if block.len() < 3 {
         return false;
     }
-    damage_by(block, x, false) == 0
+    let n = byte_at(block, 0);
+    if n != block.len() {
+        return false;
+    }
+    let id = id_of(block);
+    if 100 < id {
+        return true;
+    }
+    damage_by(n, id, x, false) == 0
 }
 
 // Walks the chain from byte 34, from block to block and over the bytes of each structured block for its XOR, and stops
@@ -156,8 +155,8 @@ pub fn survey_of(tag: &[u8]) -> Survey
             break 'chain;
         }
         let id = id_of(block);
-        let mut x: u8 = 0;
         if id <= 100 {
+            let mut x: u8 = 0;
             let mut k: usize = 1;
             while k < n {
                 if block.len() <= k {
@@ -167,9 +166,12 @@ pub fn survey_of(tag: &[u8]) -> Survey
                 x = x ^ block[k];
                 k += 1;
             }
-        }
-        number = damage_by(block, x, length != 0);
-        if number != 0 {
+            number = damage_by(n, id, x, length != 0);
+            if number != 0 {
+                break 'chain;
+            }
+        } else if block.len() < n {
+            number = 16;
             break 'chain;
         }
         if id == 1 {

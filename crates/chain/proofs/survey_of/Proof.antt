@@ -1,6 +1,6 @@
 -- `chain::survey_of` meets its contract. The block loop: the survey of what is ahead, with what was found before, is the survey of the tag.
 -- The byte loop: the bytes behind byte k, with the XOR so far, come to the XOR of all behind the first.
-use mathlib.Core.Path.{_≡_, refl, sym, ap, _∙_}
+use mathlib.Core.Path.{_≡_, refl, sym, ap, ap₂, _∙_}
 use mathlib.Core.Logic.{inl, inr, ⊎-elim}
 use mathlib.Core.Bool.{Bool, true, false}
 use mathlib.Core.List.{List}
@@ -8,12 +8,12 @@ use Prim.Native.Nat.{ℕ, _+_, _-_, _≤_}
 use native.Mathlib.Omega.{arith}
 use lib.Bits.{bitXor}
 use lib.Dec.{eqb}
-use lib.ListN.{length, getD, drop, length-take}
+use lib.ListN.{length, getD, drop, length-take, length-drop}
 use borrow.Author.Needs.{needs}
-use borrow.Author.Tests.{eq-eqb, ne-eqb}
+use borrow.Author.Tests.{le-leb, lt-leb, eq-eqb, ne-eqb}
 use Rattle.format.specs.Answers.{Answer, placed, got, refused, inOrder}
 use Rattle.format.specs.Bytes.{if_then_else_, xorAll}
-use Rattle.format.specs.Chain.{lengthOf, idOf, damageSteps, damageOf}
+use Rattle.format.specs.Chain.{lengthOf, idOf, structured, damageSteps, damageOf}
 use Rattle.format.specs.Damage.{blockAt}
 use Rattle.format.proofs.Blocks.{undamaged}
 use Rattle.format.proofs.Chains.{past-end, says-at, Stands, stands}
@@ -21,14 +21,14 @@ use Rattle.format.proofs.Damages.{number-none, number-some}
 use Rattle.format.specs.Numbers.{numberOf}
 use Rattle.chain.specs.Formed.{damageBy}
 use Rattle.chain.specs.Survey.{Found, surveyOf}
-use Rattle.chain.proofs.Formed.{damage-by, length-two, cut-short}
+use Rattle.chain.proofs.Formed.{unstructured, damage-by, length-two, cut-short}
 use Rattle.chain.proofs.Turns.{xor-more, xor-all, found, seen, SoFar, start, ended, filler, damaged, library, other, moved}
 use Rattle.chain.proofs.survey_of.Statement.{statement}
 use Rattle.chain.proofs.survey_of.Tie as tie
 
 abbrev Inv-loop : tie.InvT-loop
 Inv-loop tag at l len count size number₀ block n id x₀ k₀ number x k =
-    (number ≡ 0) × (bitXor x (xorAll (drop k block)) ≡ xorAll (drop 1 block))
+    (number ≡ 0) × (bitXor x (xorAll (drop k block)) ≡ xorAll (drop 1 block)) × (k ≤ length block)
 
 abbrev μ-loop : tie.MeasureT-loop
 μ-loop tag at l len count size number₀ block n id x₀ k₀ number x k = n - k
@@ -52,12 +52,12 @@ not-two t at h e = omega (arith, says-at t at false (omega arith))
 no-longer : (t : List ℕ) (at : ℕ) → length (blockAt t at) ≤ getD t at 0
 no-longer t at = omega (arith, length-take (getD t at 0) (drop at t))
 
--- ---- a block is judged
+-- ---- a block behind the test for length 2
 
-module _ (c : tie.Joined4 Inv-loop μ-loop Inv-chain μ-chain) where
+module _ (c : tie.After-id-of Inv-loop μ-loop Inv-chain μ-chain) where
   -- where the turn began
   abbrev turn : tie.At-chain Inv-loop μ-loop Inv-chain μ-chain
-  turn = c .before .before .before .before .before .before .before .before
+  turn = c .before .before .before .before .before .before .before
 
   abbrev tag : List ℕ
   tag = turn .before .before .args .tag .now
@@ -65,51 +65,86 @@ module _ (c : tie.Joined4 Inv-loop μ-loop Inv-chain μ-chain) where
   abbrev at : ℕ
   at = turn .chain .at
 
+  abbrev before : Bool
+  before = seen (turn .chain .length)
+
   -- the number that the block's first byte is, and the block
-  size : c .before .before .before .before .before .byte-at .result ≡ getD tag at 0
-  size = c .before .before .before .before .before .byte-at .ensures .0
+  size : c .before .before .before .before .byte-at .result ≡ getD tag at 0
+  size = c .before .before .before .before .byte-at .ensures .0
 
-  is : c .before .before .before .before .before .before .block-at .result .now ≡ blockAt tag at
-  is = c .before .before .before .before .before .before .block-at .ensures .0
+  is : c .before .before .before .before .before .block-at .result .now ≡ blockAt tag at
+  is = c .before .before .before .before .before .block-at .ensures .0
 
-  id-is : c .before .id-of .result ≡ idOf (blockAt tag at)
-  id-is = c .before .id-of .ensures ∙ ap idOf is
+  id-is : c .id-of .result ≡ idOf (blockAt tag at)
+  id-is = c .id-of .ensures ∙ ap idOf is
 
   three : 3 ≤ getD tag at 0
-  three = three-at-least _ _ size (c .before .before .before .before .if1 .left) (c .before .before .before .if2 .left) (c .before .before .if3 .left)
+  three = three-at-least _ _ size (c .before .before .before .if1 .left) (c .before .before .if2 .left) (c .before .if3 .left)
 
-  -- the XOR that it is judged with
-  summed : idOf (blockAt tag at) ≤ 100 → c .if4 .x ≡ xorAll (drop 1 (blockAt tag at))
-  summed low =
-      ⊎-elim (λ w. w .3 ∙ xor-all (c .before .before .before .before .before .before .block-at .result .now) (w .1 .k) (w .1 .x) (omega (arith, w .2 .left, ap length is, no-longer tag at, size)) (w .1 .inv .1) ∙ ap (λ (b : List ℕ). xorAll (drop 1 b)) is)
-      (λ w. absurd (omega (arith, w .0 .left, id-is, low))) (c .if4 .came)
+  -- it is as long as it says, where it has as many bytes
+  says : getD tag at 0 ≤ length (blockAt tag at) → lengthOf (blockAt tag at) ≡ length (blockAt tag at)
+  says h = omega (arith, h, no-longer tag at, says-at tag at false (omega (arith, three)))
+
+-- a structured block, behind the byte loop
+module _ (c : tie.After-loop Inv-loop μ-loop Inv-chain μ-chain) where
+  abbrev named-block : tie.After-id-of Inv-loop μ-loop Inv-chain μ-chain
+  named-block = c .before .before .before
+
+  abbrev block : List ℕ
+  block = blockAt (tag named-block) (at named-block)
+
+  low : structured block ≡ true
+  low = le-leb (idOf block) 100 (omega (arith, c .before .before .if4 .taken, id-is named-block))
+
+  whole-block : lengthOf block ≡ length block
+  whole-block = says named-block (omega (arith, c .loop-test .left, c .before .loop .inv .2, ap length (is named-block), size named-block))
+
+  sum : c .before .loop .x ≡ xorAll (drop 1 block)
+  sum =
+      xor-all (c .before .before .before .before .before .before .before .before .block-at .result .now) (c .before .loop .k) (c .before .loop .x) (omega (arith, c .loop-test .left, ap length (is named-block), no-longer (tag named-block) (at named-block), size named-block)) (c .before .loop .inv .1)
+      ∙ ap (λ (b : List ℕ). xorAll (drop 1 b)) (is named-block)
 
   -- the number of its damage
-  number-is : (r : ℕ) → r ≡ damageBy (c .if4 .x) (seen (turn .chain .length)) (c .before .before .before .before .before .before .block-at .result .now)
-      → numberOf (damageOf at (seen (turn .chain .length)) (blockAt tag at)) ≡ r
-  number-is r e = sym (e ∙ ap (damageBy (c .if4 .x) (seen (turn .chain .length))) is ∙ damage-by at (seen (turn .chain .length)) (blockAt tag at) (c .if4 .x) (not-two tag at three) summed)
+  number-is : (r : ℕ) → r ≡ damageBy (c .before .before .before .before .before .before .before .byte-at .result) (named-block .id-of .result) (c .before .loop .x) (before named-block)
+      → numberOf (damageOf (at named-block) (before named-block) block) ≡ r
+  number-is r e =
+      let says-here : c .before .before .before .before .before .before .before .byte-at .result ≡ lengthOf block = size named-block ∙ sym (says-at (tag named-block) (at named-block) false (omega (arith, three named-block))) in
+      sym (e ∙ ap₂ (λ (n i : ℕ). damageBy n i (c .before .loop .x) (before named-block)) says-here (id-is named-block)
+      ∙ damage-by block (c .before .loop .x) low whole-block sum (at named-block) (before named-block) (not-two (tag named-block) (at named-block) (three named-block)))
 
--- ---- it has none
+-- ---- it has no damage
 
-module _ (c : tie.Else6 Inv-loop μ-loop Inv-chain μ-chain) where
-  abbrev judged : tie.Joined4 Inv-loop μ-loop Inv-chain μ-chain
-  judged = c .before .before
+module _ (c : tie.Joined4 Inv-loop μ-loop Inv-chain μ-chain) where
+  abbrev judged : tie.After-id-of Inv-loop μ-loop Inv-chain μ-chain
+  judged = c .before
 
-  none : damageOf (at judged) (seen (turn judged .chain .length)) (blockAt (tag judged) (at judged)) ≡ got tt
-  none = number-none (at judged) (seen (turn judged .chain .length)) (blockAt (tag judged) (at judged)) (number-is judged _ (c .before .damage-by .ensures) ∙ c .if6 .left)
+  none : damageOf (at judged) (before judged) (blockAt (tag judged) (at judged)) ≡ got tt
+  none = elim (c .if4 .came) [
+    | inl w ↦
+        let l : tie.After-loop Inv-loop μ-loop Inv-chain μ-chain = record { before = record { before = record { before = c .before; if4 = w .0 }; loop = w .1 }; loop-test = w .2 } in
+        number-none (at judged) (before judged) (blockAt (tag judged) (at judged)) (number-is l _ (w .3 .ensures) ∙ w .4 .left)
+    | inr w ↦
+        let high : structured (blockAt (tag judged) (at judged)) ≡ false = lt-leb (idOf (blockAt (tag judged) (at judged))) 100 (omega (arith, w .0 .left, id-is judged)) in
+        unstructured _ high (at judged) (before judged) (not-two (tag judged) (at judged) (three judged)) (says judged (omega (arith, w .1 .left, ap length (is judged), size judged)))
+  ]
+
+  unharmed : c .if4 .number ≡ 0
+  unharmed = ⊎-elim (λ w. w .5 ∙ w .4 .left) (λ w. w .2 ∙ turn judged .chain .inv .0) (c .if4 .came)
 
   two : 2 ≤ getD (tag judged) (at judged) 0
   two = omega (arith, three judged)
 
   stands-here : Stands (tag judged) (at judged)
-  stands-here = stands (tag judged) (at judged) (undamaged (at judged) (seen (turn judged .chain .length)) (blockAt (tag judged) (at judged)) tt (omega (arith, two, says-at (tag judged) (at judged) false (omega (arith, two)))) none .0)
+  stands-here =
+      stands (tag judged) (at judged)
+      (undamaged (at judged) (before judged) (blockAt (tag judged) (at judged)) tt (omega (arith, two, says-at (tag judged) (at judged) false (omega (arith, two)))) none .0)
 
   -- what is found with block 1, and with another
-  with-library : judged .before .id-of .result ≡ 1
+  with-library : judged .id-of .result ≡ 1
       → SoFar (tag judged) (at judged + getD (tag judged) (at judged) 0) (at judged) (getD (tag judged) (at judged) 0) (turn judged .chain .count) (turn judged .chain .size)
   with-library e = library (tag judged) (at judged) _ _ _ _ (turn judged .chain .inv .1) two none (eq-eqb (idOf (blockAt (tag judged) (at judged))) 1 (sym (id-is judged) ∙ e))
 
-  with-other : (judged .before .id-of .result ≡ 1 → ⊥)
+  with-other : (judged .id-of .result ≡ 1 → ⊥)
       → SoFar (tag judged) (at judged + getD (tag judged) (at judged) 0) (turn judged .chain .library) (turn judged .chain .length) (turn judged .chain .count + 1) (turn judged .chain .size + getD (tag judged) (at judged) 0)
   with-other e = other (tag judged) (at judged) _ _ _ _ (turn judged .chain .inv .1) two none (ne-eqb (idOf (blockAt (tag judged) (at judged))) 1 (λ h. e (id-is judged ∙ h)))
 
@@ -147,9 +182,15 @@ left-rightly c =
                 let h = three-at-least _ _ (w .2 .ensures .0) (w .3 .left) (w .4 .left) (w .5 .left) in
                 let short : lengthOf (blockAt t at) ≡ length (blockAt t at) → ⊥ = λ e. omega (arith, e, says-at t at false (omega arith), w .2 .ensures .0, ap length (w .1 .ensures .0), w .9 .taken, w .10 .taken) in
                 harmed _ 16 _ _ (w .11) (λ e. omega arith) (damage (omega arith) 16 (cut-short at _ (blockAt t at) (not-two t at h) short))
-            | inr w ↦
-                let j : tie.Joined4 Inv-loop μ-loop Inv-chain μ-chain = record { before = _; if4 = w .7 } in
-                harmed _ _ _ _ (w .10) (w .9 .taken) (damage (omega (arith, three j)) _ (number-some at _ (blockAt t at) _ (number-is j _ (w .8 .ensures)) (w .9 .taken)))
+            | inr v ↦ elim v [
+              | inl w ↦
+                  let l : tie.After-loop Inv-loop μ-loop Inv-chain μ-chain = record { before = record { before = record { before = _; if4 = w .7 }; loop = w .8 }; loop-test = w .9 } in
+                  harmed _ _ _ _ (w .12) (w .11 .taken) (damage (omega (arith, three (named-block l))) _ (number-some at _ (blockAt t at) _ (number-is l _ (w .10 .ensures)) (w .11 .taken)))
+              | inr w ↦
+                  let h = three-at-least _ _ (w .2 .ensures .0) (w .3 .left) (w .4 .left) (w .5 .left) in
+                  let short : lengthOf (blockAt t at) ≡ length (blockAt t at) → ⊥ = λ e. omega (arith, e, says-at t at false (omega arith), w .2 .ensures .0, ap length (w .1 .ensures .0), w .8 .taken) in
+                  harmed _ 16 _ _ (w .9) (λ e. omega arith) (damage (omega arith) 16 (cut-short at _ (blockAt t at) (not-two t at h) short))
+            ]
           ]
         ]
       ]
@@ -181,7 +222,11 @@ id-of-requires : tie.Need-id-of-requires Inv-loop μ-loop Inv-chain μ-chain
 id-of-requires c κs = search needs
 
 loop-holds : tie.Need-loop-holds Inv-loop μ-loop Inv-chain μ-chain
-loop-holds c = (c .before .before .before .before .before .before .before .before .chain .inv .0, refl)
+loop-holds c =
+    let d = c .before in
+    let one : 1 ≤ length (d .before .before .before .before .before .block-at .result .now) =
+    omega (arith, ap length (is d), length-take (getD (tag d) (at d) 0) (drop (at d) (tag d)), length-drop (at d) (tag d), three d, d .before .before .before .before .before .before .chain-test .taken) in
+    (turn d .chain .inv .0, refl, one)
 
 shared-slice-read-x : tie.Need-shared-slice-read-x Inv-loop μ-loop Inv-chain μ-chain
 shared-slice-read-x c = search needs
@@ -195,7 +240,7 @@ loop-less c = search needs
 loop-again : tie.Need-loop-again Inv-loop μ-loop Inv-chain μ-chain
 loop-again c =
     let l = c .before .before .before .loop in
-    (l .inv .0, xor-more (c .before .before .before .before .before .before .before .before .before .before .block-at .result .now) (l .k) (l .x) (c .before .if5 .left) (l .inv .1))
+    (l .inv .0, xor-more (c .before .before .before .before .before .before .before .before .before .before .block-at .result .now) (l .k) (l .x) (c .before .if5 .left) (l .inv .1), omega (arith, c .before .if5 .left))
 
 damage-by-requires : tie.Need-damage-by-requires Inv-loop μ-loop Inv-chain μ-chain
 damage-by-requires c κs = search needs
@@ -218,16 +263,16 @@ chain-again-2 c =
     let j = judged d in
     let n = sym (size j) in
     let next = ap (λ (k : ℕ). turn j .chain .at + k) n in (
-      d .if6 .left,
+      unharmed d,
       ⊎-elim (λ w. moved (tag j) next (sym (w .1)) (n ∙ sym (w .2)) (sym (w .3)) (sym (w .4)) (with-library d (w .0 .taken)))
-          (λ w. moved (tag j) next (sym (w .1)) (sym (w .2)) (sym (w .3)) (ap (λ (k : ℕ). turn j .chain .size + k) n ∙ sym (w .4)) (with-other d (w .0 .left))) (c .if7 .came),
+          (λ w. moved (tag j) next (sym (w .1)) (sym (w .2)) (sym (w .3)) (ap (λ (k : ℕ). turn j .chain .size + k) n ∙ sym (w .4)) (with-other d (w .0 .left))) (c .if8 .came),
     )
 
 returns : tie.Need-returns Inv-loop μ-loop Inv-chain μ-chain
-returns c = sym (whole (c .before .chain-test .number) _ _ (c .if8 .taken) refl) ∙ left-rightly (c .before)
+returns c = sym (whole (c .before .chain-test .number) _ _ (c .if9 .taken) refl) ∙ left-rightly (c .before)
 
 returns-2 : tie.Need-returns-2 Inv-loop μ-loop Inv-chain μ-chain
-returns-2 c = sym (harmed (c .before .chain-test .number) _ _ _ refl (c .if8 .left) refl) ∙ left-rightly (c .before)
+returns-2 c = sym (harmed (c .before .chain-test .number) _ _ _ refl (c .if9 .left) refl) ∙ left-rightly (c .before)
 
 pub survey-of-spec : {M : Type 1} → statement M
 survey-of-spec =
