@@ -42,7 +42,8 @@ fn tell(refusal: Refusal, place: &mut usize) -> u32
     }
 }
 
-// Reads a tag into a sheet. `used` becomes the sheet's length; or, where the tag is damaged, `place` the byte where the damaged block begins.
+// Reads a tag into a sheet. `used` becomes the sheet's length; or, where the tag is damaged, `place` the byte where the damaged block
+// begins.
 #[no_mangle]
 pub extern "C" fn urp_read(tag: &[u8], sheet: &mut [u8], used: &mut usize, place: &mut usize) -> u32
     ensures { λ r. ⌜ ReadsC (now (tag .entry)) (now (sheet .entry)) (now (used .entry)) (now (place .entry)) r (now (sheet .exit)) (now (used .exit)) (now (place .exit)) ⌝ }

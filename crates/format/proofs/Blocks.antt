@@ -9,7 +9,7 @@ use lib.Dec.{eqb, leb}
 use lib.ListN.{length, take, drop, getD, replicate, length-append, List·getD-append}
 use lib.Seq.{getD-take, take-at, drop-at}
 use borrow.Author.Tests.{eqb-true, eqb-false, eq-eqb, ne-eqb, leb-true, le-leb}
-use Rattle.format.specs.Answers.{got, needAt, inOrder, andThen}
+use Rattle.format.specs.Answers.{got, andThen}
 use Rattle.format.specs.Bytes.{if_then_else_, isEmpty, all, le16, word, xorAll, strip, past, joined, trim}
 use Rattle.format.specs.Fields.{text, isOwner}
 use Rattle.format.specs.Chain.{lengthOf, idOf, whole, named, summed, wellFormed, isLibrary, carriable, damageSteps, damageOf, walk, chain, libraryBlock, otherBlocks, Library, payload, lastField, libraryIn, goodLibrary, libraryBytes, sealed, blockOne}

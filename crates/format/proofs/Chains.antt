@@ -10,9 +10,9 @@ use lib.Dec.{eqb, leb}
 use lib.ListN.{length, take, drop, getD, length-take, length-drop, List·getD-eq-default}
 use lib.Seq.{getD-drop, getD-take, drop-drop}
 use borrow.Author.Tests.{eqb-true, eqb-false, ne-eqb, leb-true, leb-false}
-use Rattle.format.specs.Answers.{Answer, got, inOrder, andThen}
+use Rattle.format.specs.Answers.{Answer, got, andThen}
 use Rattle.format.specs.Bytes.{if_then_else_}
-use Rattle.format.specs.Chain.{lengthOf, wellFormed, isLibrary, damageSteps, damageOf, walk, chain}
+use Rattle.format.specs.Chain.{lengthOf, wellFormed, isLibrary, damageOf, walk, chain}
 use Rattle.format.specs.Reading.{walked}
 use Rattle.format.specs.Damage.{blockAt}
 use Rattle.format.proofs.Answers.{got-inj, then-inv}

@@ -1,5 +1,5 @@
 -- What looking at a tag tells its callers.
-use mathlib.Core.Path.{_≡_, refl, sym, ap}
+use mathlib.Core.Path.{_≡_, refl, sym}
 use mathlib.Core.Logic.{inl, inr}
 use Prim.Native.Nat.{ℕ, _+_, _≤_}
 use native.Mathlib.Omega.{arith}
@@ -23,10 +23,9 @@ use Rattle.rows.specs.Rows.{slotsAt, Row}
 use Rattle.chain.specs.Survey.{endAt, surveyOf}
 use Rattle.chain.proofs.Laws.{Surveyed, survey-whole}
 use Rattle.chain.proofs.Piece.{OnePiece, in-one-piece, own-piece}
-use Rattle.look.specs.declared.Look.the-variants as look
 use Rattle.look.specs.Row.{from, nowhere, pieceBy}
 use Rattle.look.specs.Looking.{itemOn, ownerPartsOn, libraryPartsOn, FieldsOf}
-use Rattle.look.specs.View.{blockIn, atsIn, lensIn, madeIn, viewIn, judged, looking}
+use Rattle.look.specs.View.{blockIn, atsIn, lensIn, madeIn, viewIn, judged}
 use Rattle.look.proofs.Standing.{holds-row, holds-slots}
 use Rattle.look.proofs.Steps.{size-passed}
 use Rattle.look.proofs.Judged.{seen-size, seen-readable}

@@ -1,8 +1,7 @@
 -- `chain::damage_by` meets its contract: it makes the tests of `damageBy` in its order.
 use mathlib.Core.Logic.{⊎-elim}
 use mathlib.Core.Path.{_≡_, sym, _∙_}
-use mathlib.Core.Bool.{Bool, false, _&&_}
-use Prim.Native.Nat.{ℕ}
+use mathlib.Core.Bool.{false, _&&_}
 use lib.Dec.{eqb}
 use borrow.Author.Tests.{le-leb, lt-leb, eq-eqb, ne-eqb}
 use Rattle.format.specs.Bytes.{if_then_else_}

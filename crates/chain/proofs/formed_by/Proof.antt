@@ -1,12 +1,10 @@
 -- `chain::formed_by` meets its contract: it makes the tests of `formedBy` in its order.
-use mathlib.Core.Path.{_≡_, sym, ap, ap₂, _∙_}
-use mathlib.Core.Bool.{Bool, true, false}
-use Prim.Native.Nat.{ℕ}
+use mathlib.Core.Path.{_≡_, sym, _∙_}
+use mathlib.Core.Bool.{true, false}
 use lib.Dec.{eqb, leb}
 use borrow.Author.Needs.{needs}
 use borrow.Author.Tests.{le-leb, lt-leb, eq-eqb, ne-eqb}
 use Rattle.format.specs.Bytes.{if_then_else_}
-use Rattle.format.specs.Chain.{lengthOf, idOf}
 use Rattle.chain.specs.Formed.{damageBy, formedBy}
 use Rattle.chain.proofs.formed_by.Statement.{statement}
 use Rattle.chain.proofs.formed_by.Tie as tie

@@ -11,9 +11,9 @@ use lib.Dec.{eqb}
 use lib.ListN.{length, getD, drop, length-take, length-drop}
 use borrow.Author.Needs.{needs}
 use borrow.Author.Tests.{le-leb, lt-leb, eq-eqb, ne-eqb}
-use Rattle.format.specs.Answers.{Answer, placed, got, refused, inOrder}
+use Rattle.format.specs.Answers.{Answer, placed, got, refused}
 use Rattle.format.specs.Bytes.{if_then_else_, xorAll}
-use Rattle.format.specs.Chain.{lengthOf, idOf, structured, damageSteps, damageOf}
+use Rattle.format.specs.Chain.{lengthOf, idOf, structured, damageOf}
 use Rattle.format.specs.Damage.{blockAt}
 use Rattle.format.proofs.Blocks.{undamaged}
 use Rattle.format.proofs.Chains.{past-end, says-at, Stands, stands}

@@ -1,7 +1,6 @@
 -- `put_refusal` stores the line of a refusal, with its place or without.
 use native.Mathlib.Omega.{arith}
-use mathlib.Core.Path.{_≡_, sym, ap, _∙_}
-use Prim.Native.Nat.{ℕ, _<_}
+use mathlib.Core.Path.{sym, ap}
 use Rattle.format.specs.Numbers.{refusalGiven, refusalNumber, refusalPlace}
 use Rattle.format.specs.declared.Refusal.{Refusal}
 use Rattle.format.proofs.Pieces.{stored-as}
