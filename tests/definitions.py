@@ -25,6 +25,7 @@ SAME = [
     ('Chain.antt', 'idOf b = word (getD b 1 0) (getD b 2 1)', 'a block of fewer than 3 bytes is damage whatever its ID'),
     ('Elements.antt', 'placeIn [] n = 1', 'a place behind the list is no place, however far behind'),
     ('Fields.antt', 'unitByte b = capital b || between 0x61 0x7A b || between 0x30 0x3A b || eqb b 0x2F || eqb b 0x2D || eqb b 0x3A', '3A is named besides'),
+    ('Numbers.antt', 'refusalOf (got a) = plain 1', 'asked only of a call that was refused; the functions that tell it have 0 in their contracts, in crates above'),
     ('Pages.antt', 'locked locks i = eqb (getD locks i 1) 1', 'a lock map reaches every page, or the call is refused 1'),
     ('Sheet.antt', 'record { number = getD h 0 1; bytes = take n b } ∷ cut k (drop 4 h) (drop n b)', 'a head that the sheet lacks makes another sheet, so 8'),
     ('Sheet.antt', 'countIn s = word (getD s 0 1) (getD s 1 0)', 'no entries make a sheet of fewer than 2 bytes, so it is 8'),
