@@ -1,4 +1,4 @@
--- A tag that passes the tests 3 to 7.
+-- A tag that passes the tests 3, 4, 15 to 19, 6 and 7.
 use mathlib.Core.Path.{_≡_, _∙_}
 use Prim.Native.Nat.{ℕ}
 use mathlib.Core.List.{List, [], _++_}

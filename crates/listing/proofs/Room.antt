@@ -15,7 +15,7 @@ use Rattle.format.proofs.Readable.{on-readable}
 use Rattle.format.proofs.Offsets.{read-short, read-fitting}
 use Rattle.listing.specs.Listing.{sheetRoom, listed, listing}
 
--- the refusals 1 and 3 to 7
+-- the refusals 1, 3, 4, 15 to 19, 6 and 7
 abbrev pub tagRefusals : List ℕ → List Step
 tagRefusals t = need 1 (goodSize pageSize (length t)) ∷ tagSteps t
 
