@@ -22,11 +22,11 @@ idOf b = word (getD b 1 0) (getD b 2 0)
 abbrev pub whole : List ℕ → Bool
 whole b = eqb (lengthOf b) (length b)
 
--- IDs 1 to 100 are structured
+-- IDs 1 to 100 are structured; 0 is damage by itself
 abbrev pub structured : List ℕ → Bool
 structured b = leb (idOf b) 100
 
--- ID 0 is damage; a structured block has at least 4 bytes
+-- its ID is not 0; a structured block has at least 4 bytes
 unfoldable pub named : List ℕ → Bool
 named b = not (eqb (idOf b) 0) && (if structured b then leb 4 (length b) else true)
 

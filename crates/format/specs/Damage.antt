@@ -29,7 +29,7 @@ pub record Damaged (t : List ℕ) (k p : ℕ) : Type 0 where
   pub begins : 2 ≤ getD t p 0
   pub broken : FirstRefusal (placed k p) (damageSteps p seen (blockAt t p))
 
--- the tag is refused for that: 3 and 4 do not hold
+-- and neither 3 nor 4 holds: a tag of good size is refused for it
 pub record Spoilt (t : List ℕ) (k p : ℕ) : Type 0 where
   pub parameter : eqb (getD t 0 0 % 16) 1 ≡ true
   pub check : same (part 19 2 t) (le16 (crc (covered t))) ≡ true
