@@ -1,20 +1,20 @@
 -- A chain of well-formed blocks is walked as it was laid, and block 1's fields come back.
-use mathlib.Core.Path.{_≡_, refl, sym, ap, subst, _∙_}
+use mathlib.Core.Path.{_≡_, refl, sym, ap, _∙_}
 use Prim.Native.Nat.{ℕ, zero, suc, _+_, _-_, _≤_, _<_}
 use native.Mathlib.Nat.{le-refl}
 use native.Mathlib.Omega.{arith}
 use mathlib.Core.Bool.{Bool, true, false, not, _&&_, _||_}
 use mathlib.Core.List.{List, [], _∷_, _++_, append-assoc}
 use lib.Dec.{eqb, leb}
-use lib.ListN.{length, take, drop, getD, replicate, length-append, List·getD-append}
-use lib.Seq.{getD-take, take-at, drop-at}
+use lib.ListN.{length, drop, getD, replicate, length-append, List·getD-append}
+use lib.Seq.{take-at, drop-at}
 use borrow.Author.Tests.{eqb-true, eqb-false, eq-eqb, ne-eqb, leb-true, le-leb}
 use Rattle.format.specs.Answers.{got, andThen}
 use Rattle.format.specs.Bytes.{if_then_else_, isEmpty, all, le16, word, xorAll, strip, past, joined, trim}
 use Rattle.format.specs.Fields.{text, isOwner}
 use Rattle.format.specs.Chain.{lengthOf, idOf, whole, named, summed, wellFormed, isLibrary, carriable, damageSteps, damageOf, walk, chain, libraryBlock, otherBlocks, Library, payload, lastField, libraryIn, goodLibrary, libraryBytes, sealed, blockOne}
 use Rattle.format.proofs.Tests.{and-l, and-r, and-i, not-t}
-use Rattle.format.proofs.Answers.{got-inj, need-at-ok, need-at-inv, then-ok, then-inv, first-ok, first-inv, none-ok}
+use Rattle.format.proofs.Answers.{need-at-ok, need-at-inv, then-ok, first-ok, first-inv, none-ok}
 use Rattle.format.proofs.Strings.{word-le16, solid, up-to-before, past-before, strip-strip, head-strip, drop-strip, up-to-strip, past-strip}
 use Rattle.format.proofs.Xor.{xor-closed}
 
@@ -109,32 +109,6 @@ some-block n z o =
     let nonzero : n ≡ 0 → ⊥ = eqb-false n 0 z in
     let not-one : n ≡ 1 → ⊥ = eqb-false n 1 o in
     omega arith
-
--- What holds where a walk ends, and before a filler or a block where it holds behind it, holds of each walk that ends well.
-pub walk-induct : (P : List ℕ → List (List ℕ) → Type 0) → ((s : List ℕ) → P s []) → ((s : List ℕ) (bs : List (List ℕ)) → P (drop 1 s) bs → P s bs)
-    → ((s : List ℕ) (bs : List (List ℕ)) → wellFormed (take (getD s 0 0) s) ≡ true → P (drop (getD s 0 0) s) bs → P s (take (getD s 0 0) s ∷ bs))
-    → (f p : ℕ) (seen : Bool) (s : List ℕ) (bs : List (List ℕ)) → walk f p seen s ≡ got bs → P s bs
-unfolding walk
-walk-induct P end filler block zero p seen s bs e = subst (P s) (got-inj e) (end s)
-walk-induct P end filler block (suc f) p seen s bs e = go (eqb (getD s 0 0) 0) refl (eqb (getD s 0 0) 1) refl e (walk-induct P end filler block f)
-  where
-    n : ℕ
-    n = getD s 0 0
-
-    b : List ℕ
-    b = take n s
-
-    go : (x : Bool) → eqb n 0 ≡ x → (z : Bool) → eqb n 1 ≡ z
-        → (if x then got [] else if z then walk f (p + 1) seen (drop 1 s) else andThen (damageOf p seen b) λ _. andThen (walk f (p + n) (isLibrary b || seen) (drop n s)) λ bs. got (b ∷ bs)) ≡ got bs
-        → ((p : ℕ) (seen : Bool) (s : List ℕ) (bs : List (List ℕ)) → walk f p seen s ≡ got bs → P s bs) → P s bs
-    go true ex z ez e ih = subst (P s) (got-inj e) (end s)
-    go false ex true ez e ih = filler s bs (ih (p + 1) seen (drop 1 s) bs e)
-    go false ex false ez e ih =
-        let h = then-inv (damageOf p seen b) _ bs e in
-        let d = then-inv (walk f (p + n) (isLibrary b || seen) (drop n s)) _ bs (h .2) in
-        let two : 2 ≤ n = some-block n ex ez in
-        let says : lengthOf b ≡ n = getD-take n s 0 0 (omega arith) in
-        subst (P s) (got-inj (d .2)) (block s (d .0) (undamaged p seen b (h .0) (omega arith) (h .1) .0) (ih (p + n) (isLibrary b || seen) (drop n s) (d .0) (d .1)))
 
 -- a block at the front is taken, and the walk goes on behind it
 step : (f p : ℕ) (seen : Bool) (b r : List ℕ) → wellFormed b ≡ true → not (isLibrary b && seen) ≡ true

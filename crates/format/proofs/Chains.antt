@@ -1,17 +1,17 @@
 -- The chain of blocks from a place on, free of the turns that `walk` counts: its three equations, and what a whole chain has at
 -- each place.
 use mathlib.Core.Path.{_≡_, refl, sym, ap, _∙_, subst}
-use Prim.Native.Nat.{ℕ, zero, suc, _+_, _≤_, _<_}
+use Prim.Native.Nat.{ℕ, zero, suc, _+_, _-_, _≤_, _<_}
 use native.Mathlib.Nat.{add-zero}
 use native.Mathlib.Omega.{arith}
 use mathlib.Core.Bool.{Bool, true, false, not, _&&_, _||_}
 use mathlib.Core.List.{List, [], _∷_}
 use lib.Dec.{eqb, leb}
-use lib.ListN.{length, take, drop, getD, length-take, length-drop, List·getD-eq-default}
+use lib.ListN.{length, take, drop, getD, length-take, length-drop, length-append, List·getD-eq-default}
 use lib.Seq.{getD-drop, getD-take, drop-drop}
 use borrow.Author.Tests.{eqb-true, eqb-false, ne-eqb, leb-true, leb-false}
 use Rattle.format.specs.Answers.{Answer, got, andThen}
-use Rattle.format.specs.Bytes.{if_then_else_}
+use Rattle.format.specs.Bytes.{if_then_else_, joined}
 use Rattle.format.specs.Chain.{lengthOf, wellFormed, isLibrary, damageOf, walk, chain}
 use Rattle.format.specs.Reading.{walked}
 use Rattle.format.specs.Damage.{blockAt}
@@ -211,3 +211,12 @@ by-places t P e f b (suc k) at seen bs h w = go (eqb (getD t at 0) 0) refl (eqb 
         let o : getD t at 0 ≡ 1 → ⊥ = eqb-false (getD t at 0) 1 ey in
         let a = block-ahead t at seen bs w (omega arith) in
         b at seen bs a (ih (at + getD t at 0) (isLibrary (blockAt t at) || seen) (a .rest) (omega (arith, a .there .long)) (a .behind))
+
+-- together its blocks have no more bytes than are left
+pub chain-total : (t : List ℕ) (at : ℕ) (seen : Bool) (bs : List (List ℕ)) → chainFrom at seen (drop at t) ≡ got bs → length (joined bs) ≤ length t - at
+unfolding joined
+chain-total t at seen bs w =
+    by-places t (λ (k : ℕ) (s : Bool) (cs : List (List ℕ)). length (joined cs) ≤ length t - k) (λ k s e. omega arith) (λ k s cs e h. omega (arith, h)) one (length t) at seen bs (omega arith) w
+  where
+    one : (k : ℕ) (s : Bool) (cs : List (List ℕ)) (a : Ahead t k s cs) → length (joined (a .rest)) ≤ length t - (k + getD t k 0) → length (joined cs) ≤ length t - k
+    one k s cs a h = rw (a .first) (omega (arith, length-append (blockAt t k) (joined (a .rest)), a .there .size, a .there .inside, h))

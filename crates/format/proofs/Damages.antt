@@ -38,7 +38,7 @@ damage-gives p seen b x e =
     placed-step p 19 _ _ tt x e (λ h. (19, h, refl)) λ e.
     none-refuses (tt {0}) x e
 
-no-zero : oneOf damageNumbers 0 ≡ false
+pub no-zero : oneOf damageNumbers 0 ≡ false
 unfolding oneOf damageNumbers
 no-zero = refl
 

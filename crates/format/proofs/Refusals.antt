@@ -15,7 +15,7 @@ use Rattle.format.specs.Calls.{readSteps, layingSteps, writeSteps, editS
 use Rattle.format.specs.Numbers.{oneOf, damageNumbers, Gives, alone, damage, gives, oneGives, readGives, writeGives, editGives, Each, none, next, numberOf, placeOf}
 use Rattle.format.proofs.Tests.{never, and-l, and-r, or-l, or-r, or-inv, not-t}
 use Rattle.format.proofs.Answers.{worked, need-refused, passed-refused}
-use Rattle.format.proofs.Damages.{refused-damage, damage-number, place-past, on-spoilt}
+use Rattle.format.proofs.Damages.{no-zero, refused-damage, damage-number, place-past, on-spoilt}
 
 -- ---- in order
 
@@ -135,15 +135,11 @@ apart-plain (alone n ∷ gs) k u e = elim (or-inv (eqb k n) (oneGives gs (plain 
 ]
 apart-plain (damage ∷ gs) k u e = apart-plain gs k u e
 
-no-zero-number : oneOf damageNumbers 0 ≡ false
-unfolding oneOf damageNumbers
-no-zero-number = refl
-
 -- the place where the number is one of damage, and else what stood there
 pub place-told : {A : Type 0} (t : List ℕ) (gs : List Gives) (m : Answer A) (r place place′ : ℕ) → apart gs ≡ true → ((x : Refusal) → m ≡ refused x → oneGives gs x ≡ true)
     → ((k at : ℕ) → m ≡ refused (placed k at) → Damaged t k at) → r ≡ numberOf m → place′ ≡ placeOf m place
     → (oneOf damageNumbers r ≡ true → Damaged t r place′) × (oneOf damageNumbers r ≡ false → place′ ≡ place)
-place-told t gs (got a) r place place′ u l d n e = (λ h. never (cc (ap (oneOf damageNumbers) n, no-zero-number)), λ h. e)
+place-told t gs (got a) r place place′ u l d n e = (λ h. never (cc (ap (oneOf damageNumbers) n, no-zero)), λ h. e)
 place-told t gs (refused (plain k)) r place place′ u l d n e =
     (λ h. never (cc (ap (oneOf damageNumbers) n, apart-plain gs k u (l (plain k) refl))), λ h. e)
 place-told t gs (refused (placed k at)) r place place′ u l d n e =

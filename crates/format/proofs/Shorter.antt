@@ -7,20 +7,20 @@ use native.Mathlib.Omega.{arith}
 use mathlib.Core.Bool.{Bool, true, false, _||_}
 use mathlib.Core.List.{List, [], _∷_, _++_}
 use lib.Dec.{eqb}
-use lib.ListN.{length, take, drop, getD, length-take, length-drop, length-append}
+use lib.ListN.{length, drop, getD, length-take, length-drop, length-append}
 use borrow.Author.Tests.{eqb-true, le-leb, lt-leb}
-use Rattle.format.specs.Answers.{got}
 use Rattle.format.specs.Bytes.{if_then_else_, isEmpty, bytes, same, part, padWith, strip, trim, upTo, past, joined}
 use Rattle.format.specs.Pages.{goodSize}
 use Rattle.format.specs.Fields.{isilOf, hyphen, blank, alternate, alternative, marked, prefixIn, ownerSaid, goodOwner, long, packed, basicOwner}
-use Rattle.format.specs.Chain.{isLibrary, walk, chain, libraryBlock, otherBlocks, Library, payload, lastField, libraryIn, libraryBytes, sealed, blockOne}
+use Rattle.format.specs.Chain.{isLibrary, libraryBlock, otherBlocks, Library, payload, lastField, libraryIn, libraryBytes, sealed, blockOne}
 use Rattle.format.specs.Elements.{Content, numbers, placeIn, place}
 use Rattle.format.specs.Layout.{ownerWidth, ownerOf, library, basic, laidOut, fits, hasLayout}
 use Rattle.format.specs.Reading.{mainUsage, itemIn, ownerIn, blocksIn, libraryOn, ownerOn, contentIn, Readable}
 use Rattle.format.proofs.Tests.{never, beq-false, and-i, or-r}
 use Rattle.format.proofs.Strings.{some-behind, part-length, strip-length, strip-strip, length-pad, up-to-before, past-before}
 use Rattle.format.proofs.Fields.{isil-facts, isil-first, alternative-facts, said-cases}
-use Rattle.format.proofs.Blocks.{sealed-length, walk-induct}
+use Rattle.format.proofs.Blocks.{sealed-length}
+use Rattle.format.proofs.Chains.{walked-from, chain-total}
 use Rattle.format.proofs.Layouts.{basic-length, size-cases}
 use Rattle.format.proofs.Sound.{capitals-unhyphened, isil-made, prefix-length, fields-parts, agree-owner, library-tests, library-short, blocks-handed}
 
@@ -266,16 +266,9 @@ split-total (b ∷ bs) = go (isLibrary b) (split-total bs)
     go true ih = omega (arith, length-append b (joined bs), others-le bs)
     go false ih = omega (arith, length-append b (joined bs), length-append b (joined (otherBlocks bs)))
 
-pub walk-total : (f p : ℕ) (seen : Bool) (s : List ℕ) (bs : List (List ℕ)) → walk f p seen s ≡ got bs → length (joined bs) ≤ length s
-unfolding joined
-walk-total =
-    walk-induct (λ s bs. length (joined bs) ≤ length s) (λ s. omega arith) (λ s bs ih. omega (arith, ih, length-drop 1 s))
-    (λ s bs w ih. let n : ℕ = getD s 0 0 in omega (arith, ih, length-append (take n s) (joined bs), length-take n s, length-drop n s))
-
 -- the blocks of a tag have no more bytes than follow its first 34
 pub blocks-total : (t : List ℕ) → Readable t → length (joined (blocksIn t)) ≤ length t - 34
-unfolding chain
-blocks-total t r = omega (arith, walk-total (length (drop 34 t)) 34 false (drop 34 t) (blocksIn t) (r .blocks), length-drop 34 t)
+blocks-total t r = chain-total t 34 false (blocksIn t) (sym (walked-from t) ∙ r .blocks)
 
 -- ---- the layout of what was read
 

@@ -1,5 +1,5 @@
 -- Whatever a readable tag holds is sound: a value for each number, blocks that can be carried, no clash.
-use mathlib.Core.Path.{_≡_, refl, ap}
+use mathlib.Core.Path.{_≡_, refl, sym, ap, _∙_}
 use mathlib.Core.Logic.{_⊎_, inl, inr}
 use Prim.Native.Nat.{ℕ, _+_, _-_, _≤_}
 use native.Mathlib.Omega.{arith}
@@ -11,13 +11,14 @@ use borrow.Author.Tests.{ne-eqb, leb-true, le-leb, lt-leb}
 use Rattle.format.specs.Answers.{got}
 use Rattle.format.specs.Bytes.{if_then_else_, isEmpty, all, bytes, same, part, strip, past}
 use Rattle.format.specs.Fields.{text, capital, isilOf, isil, hyphen, blank, alternate, alternative, isOwner, marker, marked, goodItem, prefixIn, ownerSaid, goodOwner, long}
-use Rattle.format.specs.Chain.{wellFormed, isLibrary, carriable, walk, chain, libraryBlock, otherBlocks, payload, lastField, libraryIn, goodLibrary}
+use Rattle.format.specs.Chain.{wellFormed, isLibrary, carriable, libraryBlock, otherBlocks, payload, lastField, libraryIn, goodLibrary}
 use Rattle.format.specs.Elements.{numbers, placeIn, place, shape, form, value, clash, valuesAt, sound}
+use Rattle.format.specs.Damage.{blockAt}
 use Rattle.format.specs.Reading.{itemIn, ownerIn, blocksIn, libraryOn, goodFields, agree, ownerOn, contentIn, Readable}
-use Rattle.format.proofs.Tests.{never, and-l, and-r, and-i, and-no, or-f, or-inv, if-inv, all-drop, bytes-at}
+use Rattle.format.proofs.Tests.{never, and-l, and-r, and-i, and-no, or-f, or-inv, if-inv, bytes-at}
 use Rattle.format.proofs.Strings.{part-length, strip-length, up-to-length, past-length, other, without, up-to-before, past-before}
 use Rattle.format.proofs.Fields.{capital-ge, isil-facts, isil-first, alternative-facts, said-cases}
-use Rattle.format.proofs.Blocks.{walk-induct}
+use Rattle.format.proofs.Chains.{chainFrom, walked-from, Ahead, by-places}
 use Rattle.format.proofs.Slots.{parts-sound}
 use Rattle.format.proofs.Values.{text-value, set-value}
 
@@ -75,19 +76,16 @@ owner-said t e = elim (said-cases t e) [
 
 -- ---- the blocks
 
--- a block as the walk hands it out
+-- a block as a walk hands it out
 abbrev pub handed : List ℕ → Bool
 handed b = wellFormed b && leb (length b) 255
 
-pub walk-handed : (f p : ℕ) (seen : Bool) (s : List ℕ) (bs : List (List ℕ)) → bytes s ≡ true → walk f p seen s ≡ got bs → all handed bs ≡ true
+chain-handed : (t : List ℕ) (at : ℕ) (seen : Bool) (bs : List (List ℕ)) → bytes t ≡ true → chainFrom at seen (drop at t) ≡ got bs → all handed bs ≡ true
 unfolding all
-walk-handed f p seen s bs y e =
-    walk-induct (λ s bs. bytes s ≡ true → all handed bs ≡ true) (λ s y. refl) (λ s bs ih y. ih (all-drop (λ b. leb b 255) 1 s y))
-    (λ s bs w ih y.
-    let n : ℕ = getD s 0 0 in
-    let short : length (take n s) ≤ 255 = omega (arith, length-take n s, bytes-at 0 s y) in
-    and-i (and-i w (le-leb (length (take n s)) 255 short)) (ih (all-drop (λ b. leb b 255) n s y)))
-    f p seen s bs e y
+chain-handed t at seen bs y w = by-places t (λ (k : ℕ) (s : Bool) (cs : List (List ℕ)). all handed cs ≡ true) (λ k s e. refl) (λ k s cs e h. h) one (length t) at seen bs (omega arith) w
+  where
+    one : (k : ℕ) (s : Bool) (cs : List (List ℕ)) (a : Ahead t k s cs) → all handed (a .rest) ≡ true → all handed cs ≡ true
+    one k s cs a h = rw (a .first) (and-i (and-i (a .well) (le-leb (length (blockAt t k)) 255 (omega (arith, a .there .size, bytes-at k t y)))) h)
 
 pub library-short : (bs : List (List ℕ)) → all handed bs ≡ true → length (libraryBlock bs) ≤ 255
 unfolding all libraryBlock
@@ -207,8 +205,7 @@ agree-owner t e =
 
 module _ (t : List ℕ) (y : bytes t ≡ true) (r : Readable t) where
   pub blocks-handed : all handed (blocksIn t) ≡ true
-  unfolding chain
-  blocks-handed = walk-handed (length (drop 34 t)) 34 false (drop 34 t) (blocksIn t) (all-drop (λ b. leb b 255) 34 t y) (r .blocks)
+  blocks-handed = chain-handed t 34 false (blocksIn t) y (sym (walked-from t) ∙ r .blocks)
 
   -- the owner of a readable tag, or none
   pub owner-on : (ownerOn t ≡ []) ⊎ (isOwner (ownerOn t) ≡ true)
