@@ -1,7 +1,7 @@
 -- `urp_edit` takes the answer apart: the number and the results are what the call's contract says.
 use mathlib.Core.Path.{sym, ap, _∙_}
 use Rattle.format.specs.Numbers.{editGiven, refusalOf, numberOf}
-use Rattle.capi.proofs.Given.{result-got, result-refused, place-got, number-told, place-told}
+use Rattle.capi.proofs.Given.{result-got, result-refused, place-got, number-refused, place-refused}
 use borrow.Author.Needs.{needs}
 use Rattle.capi.proofs.urp_edit.Statement.{statement}
 use Rattle.capi.proofs.urp_edit.Tie as tie
@@ -34,12 +34,12 @@ returns c =
     let told = sym (e .answered) ∙ given in
     let out = c .before .before .edit-refusal .ensures ∙ ap refusalOf given in
     record {
-      answered = number-told _ _ _ _ told out (c .tell .ensures .0);
+      answered = number-refused _ _ _ _ told out (c .tell .ensures .0);
       left = e .left;
       handed = e .handed;
       result = result-refused _ _ _ _ told;
       old-length = result-refused _ _ _ _ told;
-      at-place = place-told _ _ _ _ _ told out (c .tell .ensures .1);
+      at-place = place-refused _ _ _ _ _ told out (c .tell .ensures .1);
     }
 
 same-length-3 : tie.Need-same-length-3

@@ -1,7 +1,7 @@
 -- `urp_read` takes the answer apart: the number and the results are what the call's contract says.
 use mathlib.Core.Path.{sym, ap, _∙_}
 use Rattle.format.specs.Numbers.{readGiven, refusalOf, numberOf}
-use Rattle.capi.proofs.Given.{result-got, result-refused, place-got, number-told, place-told}
+use Rattle.capi.proofs.Given.{result-got, result-refused, place-got, number-refused, place-refused}
 use borrow.Author.Needs.{needs}
 use Rattle.capi.proofs.urp_read.Statement.{statement}
 use Rattle.capi.proofs.urp_read.Tie as tie
@@ -31,10 +31,10 @@ returns c =
     let told = sym (e .answered) ∙ given in
     let out = c .before .before .read-refusal .ensures ∙ ap refusalOf given in
     record {
-      answered = number-told _ _ _ _ told out (c .tell .ensures .0);
+      answered = number-refused _ _ _ _ told out (c .tell .ensures .0);
       left = e .left;
       result = result-refused _ _ _ _ told;
-      at-place = place-told _ _ _ _ _ told out (c .tell .ensures .1);
+      at-place = place-refused _ _ _ _ _ told out (c .tell .ensures .1);
     }
 
 same-length-2 : tie.Need-same-length-2
