@@ -1,10 +1,12 @@
-// The calls that a C host links: `include/urpanella.h` documents them. Each takes the answer of reading, writing or editing apart and does nothing else.
+// The calls that a C host links: `include/urpanella.h` documents them. Each takes the answer of the call that does the work apart and does
+// nothing else.
 use format::EditAnswer;
 use format::NumberAnswer;
 use format::ReadAnswer;
 use format::Refusal;
 ghost use mathlib.Core.Path.{_≡_};
 ghost use Rattle.format.specs.Numbers.{refusalGiven, readGiven, editGiven, refusalOf, refusalNumber, refusalPlace, ReadsC, WritesC, EditsC};
+ghost use Rattle.words.specs.Calls.{decoding, encoding, FillsC};
 
 // What a call returns whose work is done.
 const DONE: u32 = 0;
@@ -93,5 +95,31 @@ pub extern "C" fn urp_edit(
     };
     *pages = count;
     *used = length;
+    DONE
+}
+
+// The text of UHF words. `used` becomes its length.
+#[no_mangle]
+pub extern "C" fn urp_words_to_text(words: &[u16], text: &mut [u8], used: &mut usize) -> u32
+    ensures { λ r. ⌜ FillsC (decoding (now (words .entry)) (now (text .entry))) (now (used .entry)) r (now (text .exit)) (now (used .exit)) ⌝ }
+{
+    let answer = decoding::words_to_text(words, text);
+    let NumberAnswer::Done(length) = answer else {
+        return format::answer_number(answer);
+    };
+    *used = length;
+    DONE
+}
+
+// The UHF words of a text. `used` becomes their count.
+#[no_mangle]
+pub extern "C" fn urp_text_to_words(text: &[u8], words: &mut [u16], used: &mut usize) -> u32
+    ensures { λ r. ⌜ FillsC (encoding (now (text .entry)) (now (words .entry))) (now (used .entry)) r (now (words .exit)) (now (used .exit)) ⌝ }
+{
+    let answer = encoding::text_to_words(text, words);
+    let NumberAnswer::Done(count) = answer else {
+        return format::answer_number(answer);
+    };
+    *used = count;
     DONE
 }

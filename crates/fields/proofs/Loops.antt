@@ -1,5 +1,4 @@
--- What the loops of this crate know at each turn, and how a turn keeps it: each byte passes a test, the first of a byte is sought,
--- the 00 at the end are left out.
+-- What the loops of this crate know at each turn, and how a turn keeps it: the first of a byte is sought, the 00 at the end are left out.
 use mathlib.Core.Path.{_≡_, refl, sym, ap, _∙_}
 use Prim.Native.Nat.{ℕ, suc, _+_, _-_, _≤_, _<_}
 use native.Mathlib.Omega.{arith}
@@ -12,31 +11,6 @@ use lib.Seq.{drop-cons, take-suc, take-length, length-take-le}
 use borrow.Author.Tests.{eq-eqb, ne-eqb}
 use Rattle.format.specs.Bytes.{all, trim, strip, upTo}
 use Rattle.format.proofs.Strings.{strip-append, strip-behind, trim-other}
-
--- ---- each byte passes a test
-
--- the bytes before i pass it, so those from i on decide
-pub record Passing (f : ℕ → Bool) (s : List ℕ) (i : ℕ) : Type 0 where
-  pub inside : i ≤ length s
-  pub rest : all f (drop i s) ≡ all f s
-
-module _ (f : ℕ → Bool) (s : List ℕ) where
-  pub passing-start : Passing f s 0
-  passing-start = record { inside = omega arith; rest = refl }
-
-  all-cons : (i : ℕ) (t : Bool) → i < length s → f (getD s i 0) ≡ t → all f (drop i s) ≡ t && all f (drop (suc i) s)
-  unfolding all
-  all-cons i t h e = rw (drop-cons s i 0 h, e) refl
-
-  pub passing-on : (i : ℕ) → Passing f s i → i < length s → f (getD s i 0) ≡ true → Passing f s (i + 1)
-  passing-on i p h e = record { inside = omega arith; rest = rw add-one (sym (all-cons i true h e) ∙ p .rest) }
-
-  pub passing-not : (i : ℕ) → Passing f s i → i < length s → f (getD s i 0) ≡ false → false ≡ all f s
-  passing-not i p h e = sym (all-cons i false h e) ∙ p .rest
-
-  pub passing-all : (i : ℕ) → Passing f s i → length s ≤ i → true ≡ all f s
-  unfolding all
-  passing-all i p h = sym (ap (all f) (drop-of-length-le s h)) ∙ p .rest
 
 -- ---- the first b
 

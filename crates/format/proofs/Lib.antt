@@ -1,4 +1,5 @@
 pub mod Tests
+pub mod Passing
 pub mod Answers
 pub mod Given
 pub mod Strings

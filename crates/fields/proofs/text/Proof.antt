@@ -5,7 +5,7 @@ use borrow.Author.Needs.{needs}
 use borrow.Author.Tests.{not-true, not-false}
 use lib.ListN.{length}
 use Rattle.format.specs.Fields.{textByte, text}
-use Rattle.fields.proofs.Loops.{Passing, passing-start, passing-on, passing-not, passing-all}
+use Rattle.format.proofs.Passing.{Passing, passing-start, passing-on, passing-not, passing-all}
 use Rattle.fields.proofs.text.Statement.{statement}
 use Rattle.fields.proofs.text.Tie as tie
 

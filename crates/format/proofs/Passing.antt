@@ -1,0 +1,33 @@
+-- A loop that puts each byte of a string to a test: what it knows at each turn, and how a turn keeps it.
+use mathlib.Core.Path.{_≡_, refl, sym, ap, _∙_}
+use Prim.Native.Nat.{ℕ, suc, _+_, _≤_, _<_}
+use native.Mathlib.Omega.{arith}
+use native.Mathlib.Numerals.{add-one}
+use mathlib.Core.Bool.{Bool, true, false, _&&_}
+use mathlib.Core.List.{List}
+use lib.ListN.{length, drop, getD, drop-of-length-le}
+use lib.Seq.{drop-cons}
+use Rattle.format.specs.Bytes.{all}
+
+-- the bytes before i pass it, so those from i on decide
+pub record Passing (f : ℕ → Bool) (s : List ℕ) (i : ℕ) : Type 0 where
+  pub inside : i ≤ length s
+  pub rest : all f (drop i s) ≡ all f s
+
+module _ (f : ℕ → Bool) (s : List ℕ) where
+  pub passing-start : Passing f s 0
+  passing-start = record { inside = omega arith; rest = refl }
+
+  all-cons : (i : ℕ) (t : Bool) → i < length s → f (getD s i 0) ≡ t → all f (drop i s) ≡ t && all f (drop (suc i) s)
+  unfolding all
+  all-cons i t h e = rw (drop-cons s i 0 h, e) refl
+
+  pub passing-on : (i : ℕ) → Passing f s i → i < length s → f (getD s i 0) ≡ true → Passing f s (i + 1)
+  passing-on i p h e = record { inside = omega arith; rest = rw add-one (sym (all-cons i true h e) ∙ p .rest) }
+
+  pub passing-not : (i : ℕ) → Passing f s i → i < length s → f (getD s i 0) ≡ false → false ≡ all f s
+  passing-not i p h e = sym (all-cons i false h e) ∙ p .rest
+
+  pub passing-all : (i : ℕ) → Passing f s i → length s ≤ i → true ≡ all f s
+  unfolding all
+  passing-all i p h = sym (ap (all f) (drop-of-length-le s h)) ∙ p .rest

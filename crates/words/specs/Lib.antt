@@ -1,0 +1,4 @@
+pub mod Code40
+pub mod Meaning
+pub mod Calls
+pub mod Demands
