@@ -27,7 +27,7 @@ damage-gives : (k p : ℕ) → oneOf damageNumbers k ≡ true → gives damage (
 unfolding gives
 damage-gives k p e = e
 
-test : {gs : List Gives} {ss : List Step} (n : ℕ) (b : Bool) → Each gs ss → Each (alone n ∷ gs) (need n b ∷ ss)
+pub test : {gs : List Gives} {ss : List Step} (n : ℕ) (b : Bool) → Each gs ss → Each (alone n ∷ gs) (need n b ∷ ss)
 test n b r = next (λ x e. ap (gives (alone n)) (need-refused n b x e .1) ∙ alone-gives n) r
 
 walk-step : {gs : List Gives} {ss : List Step} (t : List ℕ) → Each gs ss → Each (damage ∷ gs) (passed (walked t) ∷ ss)

@@ -1,5 +1,10 @@
 pub mod Cases
 pub mod Values
 pub mod Words
+pub mod Meanings
 pub mod Runs
+pub mod RoundTrip
+pub mod Places
 pub mod Outcomes
+pub mod Promises
+pub mod Pairs

@@ -5,12 +5,17 @@ use mathlib.Core.Bool.{Bool, true, false}
 use mathlib.Core.List.{List, [], _∷_}
 use lib.ListN.{length}
 use lib.Dec.{leb}
-use borrow.Author.Tests.{le-leb, lt-leb, leb-true}
-use Rattle.format.specs.Answers.{got, refused, plain, Step, need, inOrder}
+use borrow.Author.Tests.{le-leb, lt-leb, leb-true, leb-false}
+use Rattle.format.specs.Answers.{Answer, got, refused, plain, Step, need, inOrder}
 use Rattle.format.specs.Bytes.{filled}
 use Rattle.format.specs.declared.NumberAnswer.the-variants.{Done, Refused}
 use Rattle.format.proofs.Answers.{next-ok, next-no, next-inv, none-ok, afterwards-got, afterwards-refused}
+use Rattle.format.proofs.Tests.{never}
 use Rattle.words.specs.Calls.{filling, Fills}
+use Rattle.words.proofs.Cases.{decide}
+
+plain-inj : {k n : ℕ} → _≡_ {A = Answer ℕ} (refused (plain k)) (refused (plain n)) → k ≡ n
+plain-inj e = cc
 
 -- refusal k unless `good`, then 2 unless `out` has its room
 abbrev pub twoSteps : ℕ → Bool → ℕ → List ℕ → List Step
@@ -32,6 +37,21 @@ module _ (k : ℕ) (good : Bool) (room : ℕ) (out : List ℕ) where
 
   pub room-got : {n : ℕ} → inOrder (twoSteps k good room out) (length out) ≡ got n → length out ≤ room
   room-got {n} e = leb-true (length out) room (next-inv 2 _ [] (length out) n (next-inv k good _ (length out) n e .1) .0)
+
+  -- k says that not all is good, and 2 that all is, and there is no room
+  module _ (other : k ≡ 2 → ⊥) where
+    pub bad-refused : inOrder (twoSteps k good room out) (length out) ≡ refused (plain k) → good ≡ false
+    bad-refused e =
+        decide good
+        (λ g. decide (leb (length out) room) (λ l. never (cc (answer-good g (leb-true (length out) room l), e)))
+        (λ l. absurd (other (plain-inj (sym e ∙ answer-short g (leb-false (length out) room l))))))
+        (λ g. g)
+
+    pub short-refused : inOrder (twoSteps k good room out) (length out) ≡ refused (plain 2) → (good ≡ true) × (room < length out)
+    short-refused e =
+        decide good
+        (λ g. decide (leb (length out) room) (λ l. never (cc (answer-good g (leb-true (length out) room l), e))) (λ l. (g, leb-false (length out) room l)))
+        (λ g. absurd (other (plain-inj (sym (answer-bad g) ∙ e))))
 
 -- ---- the contract, once the answer is known
 

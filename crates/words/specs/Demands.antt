@@ -16,7 +16,7 @@ abbrev pub Converter : Type 0
 Converter = List ℕ → List ℕ → Outcome
 
 -- the work is done: the output's length is given, and just that much filled
-abbrev Done : Outcome → List ℕ → List ℕ → Type 0
+abbrev pub Done : Outcome → List ℕ → List ℕ → Type 0
 Done o out buffer = (o .answer ≡ got (length out)) × (o .buffer ≡ filled out buffer)
 
 -- a refusal changes no byte of the buffer
@@ -31,7 +31,7 @@ pub record Decodes (f : Converter) : Type 0 where
   pub short : (ws buffer : List ℕ) → (f ws buffer .answer ≡ refused (plain 2)) ↔ ((s : List ℕ) × Says ws s × (length buffer < length s))
 
 -- a character above 7F stands in the text
-abbrev High : List ℕ → Type 0
+abbrev pub High : List ℕ → Type 0
 High s = (i : ℕ) × (i < length s) × (0x7F < getD s i 0)
 
 -- Text to words: the words of the house rule go out, where there is room for them. 21 exactly where a character is above 7F; 2 exactly
