@@ -8,3 +8,4 @@ pub mod Places
 pub mod Outcomes
 pub mod Promises
 pub mod Pairs
+pub mod Wrong

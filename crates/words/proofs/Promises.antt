@@ -98,7 +98,7 @@ none-high s n = decide (all is646 s) (λ t. t) (λ t. let f = some-fails is646 s
 high-fails : (s : List ℕ) → High s → all is646 s ≡ false
 high-fails s h = fails-all is646 s (h .0, h .1, lt-leb (getD s (h .0) 0) 0x7F (h .2))
 
-not-high : (s : List ℕ) → all is646 s ≡ true → High s → ⊥
+pub not-high : (s : List ℕ) → all is646 s ≡ true → High s → ⊥
 not-high s t h = never (cc (high-fails s h))
 
 pub decodes : Decodes decoding
