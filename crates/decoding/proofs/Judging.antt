@@ -1,0 +1,55 @@
+-- The loop that counts characters: what it knows at each turn, and how a turn keeps it.
+use mathlib.Core.Path.{_≡_, refl, sym, ap, _∙_}
+use Prim.Native.Nat.{ℕ, _+_, _*_, _≤_, _<_}
+use native.Mathlib.Nat.{zero-add}
+use native.Mathlib.Omega.{arith}
+use native.Mathlib.Numerals.{add-one}
+use mathlib.Core.Bool.{true, false, not}
+use mathlib.Core.List.{List, [], _∷_, _++_}
+use lib.ListN.{length, drop, getD, length-append, drop-of-length-le}
+use lib.Seq.{drop-cons}
+use Rattle.format.specs.Bytes.{isEmpty, all}
+use Rattle.format.proofs.Passing.{Passing, passing-start, passing-on, passing-not, passing-all}
+use Rattle.words.specs.Code40.{charactersOf, meaningful, textOf}
+
+-- a word has a meaning where it has characters
+some : (s : List ℕ) → (length s ≡ 0 → ⊥) → not (isEmpty s) ≡ true
+some [] h = absurd (h refl)
+some (x ∷ s) h = refl
+
+none : (s : List ℕ) → length s ≡ 0 → not (isEmpty s) ≡ false
+none [] h = refl
+none (x ∷ s) h = absurd (omega arith)
+
+-- the words before i have a meaning, and n characters; these are so few that their number fits
+pub record Judging (ws : List ℕ) (i n : ℕ) : Type 0 where
+  pub meant : Passing meaningful ws i
+  pub few : n ≤ 3 * i
+  pub counted : n + length (textOf (drop i ws)) ≡ length (textOf ws)
+
+pub judging-start : (ws : List ℕ) → Judging ws 0 0
+judging-start ws = record { meant = passing-start meaningful ws; few = omega arith; counted = zero-add (length (textOf ws)) }
+
+-- the text of what is left
+pub text-at : (ws : List ℕ) (i : ℕ) → i < length ws → textOf (drop i ws) ≡ charactersOf (getD ws i 0) ++ textOf (drop (i + 1) ws)
+unfolding textOf
+text-at ws i h = rw (add-one, drop-cons ws i 0 h)
+
+-- the word at i has k characters
+module _ {ws : List ℕ} {i n k : ℕ} (j : Judging ws i n) (h : i < length ws) (e : k ≡ length (charactersOf (getD ws i 0))) where
+  pub judging-on : k ≤ 3 → (k ≡ 0 → ⊥) → Judging ws (i + 1) (n + k)
+  judging-on small more =
+      let s : List ℕ = charactersOf (getD ws i 0) in
+      record {
+        meant = passing-on meaningful ws i (j .meant) h (some s (λ z. more (e ∙ z)));
+        few = omega (arith, j .few);
+        counted = omega (arith, e, j .counted, ap length (text-at ws i h), length-append s (textOf (drop (i + 1) ws)));
+      }
+
+  pub judging-not : k ≡ 0 → all meaningful ws ≡ false
+  judging-not z = sym (passing-not meaningful ws i (j .meant) h (none (charactersOf (getD ws i 0)) (sym e ∙ z)))
+
+pub judging-all : {ws : List ℕ} {i n : ℕ} → Judging ws i n → length ws ≤ i → (all meaningful ws ≡ true) × (n ≡ length (textOf ws))
+unfolding textOf
+judging-all {ws} {i} {n} j h =
+    (sym (passing-all meaningful ws i (j .meant) h), omega (arith, j .counted, ap (λ (l : List ℕ). length (textOf l)) (drop-of-length-le ws h)))

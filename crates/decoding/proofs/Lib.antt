@@ -1,0 +1,5 @@
+mod Characters
+mod Meaning
+mod Judging
+mod Putting
+pub mod One
