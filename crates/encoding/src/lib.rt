@@ -19,9 +19,11 @@ fn mark_values(alphabet: &[u8; 39], values: &mut [u8; 128])
     requires { ⌜ all is646 (now alphabet) ≡ true ⌝ }
     ensures { λ _. ⌜ now (values .exit) ≡ marked 1 (now (alphabet .entry)) (now (values .entry)) ⌝ }
 {
+    // as a slice, of which the proof knows the length
+    let characters: &[u8] = alphabet;
     let mut i: usize = 0;
-    while i < 39 {
-        let c = alphabet[i] as usize;
+    while i < characters.len() {
+        let c = characters[i] as usize;
         values[c] = i as u8 + 1;
         i += 1;
     }

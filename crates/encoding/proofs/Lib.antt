@@ -1,0 +1,6 @@
+mod Places
+mod Taking
+mod Turns
+mod Marks
+mod Ways
+pub mod One
