@@ -912,46 +912,54 @@ static const uint8_t character_values[CHARACTER_MAX + 1] = {
     0, 0, 0, 0, 0, 0, 0, 0, 0, 0, 0, 0, 0, 0, 0, 0
 };
 
-/* The second and the third value of a word of three. */
-static unsigned second_value(uint16_t word)
-{
-    return (word - 1u) / 40 % 40;
-}
+/* The three values of a word of three. */
+struct three {
+    unsigned first;
+    unsigned second;
+    unsigned third;
+};
 
-static unsigned third_value(uint16_t word)
+static struct three three_of(uint16_t word)
 {
-    return (word - 1u) % 40;
+    unsigned sum = word - 1u, before = sum / 40;
+    struct three values;
+
+    values.first = before / 40;
+    values.second = before % 40;
+    values.third = sum % 40;
+    return values;
 }
 
 /* The count of characters that a word holds, 0 where it has no meaning. */
 static size_t characters_in(uint16_t word)
 {
-    if (word >= WORD_OF_THREE_MIN && word <= WORD_OF_THREE_MAX) {
-        if (third_value(word) != PAD)
-            return second_value(word) != PAD ? 3 : 0;
-        return second_value(word) != PAD ? 2 : 1;
-    }
-    return word >= ONE_CHARACTER && word <= ONE_CHARACTER + CHARACTER_MAX;
+    struct three values;
+
+    if (word < WORD_OF_THREE_MIN || word > WORD_OF_THREE_MAX)
+        return word >= ONE_CHARACTER && word <= ONE_CHARACTER + CHARACTER_MAX;
+    values = three_of(word);
+    if (values.second == PAD)
+        return values.third == PAD ? 1 : 0;
+    return values.third == PAD ? 2 : 3;
 }
 
 /* Puts the characters of a word that has a meaning, and gives their count. */
 static size_t put_characters(uint8_t *text, uint16_t word)
 {
-    unsigned second, third;
+    struct three values;
 
     if (word >= ONE_CHARACTER) {
         text[0] = (uint8_t)(word & 0xFF);
         return 1;
     }
-    second = second_value(word);
-    third = third_value(word);
-    text[0] = (uint8_t)value_characters[(word - 1u) / 1600];
-    if (second == PAD)
+    values = three_of(word);
+    text[0] = (uint8_t)value_characters[values.first];
+    if (values.second == PAD)
         return 1;
-    text[1] = (uint8_t)value_characters[second];
-    if (third == PAD)
+    text[1] = (uint8_t)value_characters[values.second];
+    if (values.third == PAD)
         return 2;
-    text[2] = (uint8_t)value_characters[third];
+    text[2] = (uint8_t)value_characters[values.third];
     return 3;
 }
 
