@@ -985,27 +985,29 @@ uint32_t urp_words_to_text(const uint16_t *words, size_t words_len,
     return URP_DONE;
 }
 
+/* The count of words that a run of the 39 takes. */
+static size_t words_of_run(size_t run)
+{
+    return (run + 2) / 3;
+}
+
 /* Counts the words of a text: 21. */
 static uint32_t count_words(const uint8_t *text, size_t text_len,
                             size_t *count)
 {
-    size_t n = 0, i;
-    int left = 0;  /* places that the word begun last has left */
+    size_t n = 0, run = 0, i;
 
     for (i = 0; i < text_len; i++) {
         if (text[i] > CHARACTER_MAX)
             return URP_CHARACTER;
-        if (character_values[text[i]] == PAD) {
-            n++;
-            left = 0;
-        } else if (left == 0) {
-            n++;
-            left = 2;
+        if (character_values[text[i]] != PAD) {
+            run++;
         } else {
-            left--;
+            n += words_of_run(run) + 1;
+            run = 0;
         }
     }
-    *count = n;
+    *count = n + words_of_run(run);
     return URP_DONE;
 }
 
@@ -1027,11 +1029,15 @@ static void put_words(uint16_t *words, const uint8_t *text, size_t text_len)
             *words++ = (uint16_t)(ONE_CHARACTER + text[at++]);
             continue;
         }
-        second = value_at(text, text_len, at + 1);
-        if (second != PAD)
-            third = value_at(text, text_len, at + 2);
+        at++;
+        second = value_at(text, text_len, at);
+        if (second != PAD) {
+            at++;
+            third = value_at(text, text_len, at);
+            if (third != PAD)
+                at++;
+        }
         *words++ = (uint16_t)(1600 * first + 40 * second + third + 1);
-        at += 1 + (second != PAD) + (third != PAD);
     }
 }
 
