@@ -19,7 +19,7 @@ pub const ID: u32 = 17;
 pub const CHECKSUM: u32 = 18;
 pub const SECOND: u32 = 19;
 pub const WORD: u32 = 20;
-pub const CHARACTER: u32 = 21;
+pub const HIGH: u32 = 21;
 
 /// Damage in the chain, in the order in which each block is tested for it.
 pub const DAMAGE: [u32; 5] = [LENGTH, END, ID, CHECKSUM, SECOND];
@@ -39,7 +39,7 @@ pub const EDITING: [u32; 16] = [
 pub const TO_TEXT: [u32; 2] = [WORD, ROOM];
 
 /// Text into words: "21 a character above 7F, then 2".
-pub const TO_WORDS: [u32; 2] = [CHARACTER, ROOM];
+pub const TO_WORDS: [u32; 2] = [HIGH, ROOM];
 
 /// What reading and editing refuse with: "a refusal for damage gives its number and that place, any other its number
 /// alone". The other calls, which walk no chain, refuse with a number.
@@ -60,7 +60,7 @@ impl From<u32> for Refusal {
 pub fn name(number: u32) -> &'static str {
     const NAMES: [&str; 22] = [
         "accepted", "Size", "Room", "Content", "Check", "retired", "Field", "Mismatch", "Sheet", "Value", "Clash",
-        "Large", "Locked", "Loose", "Offset", "Length", "End", "ID", "Checksum", "Second", "Word", "Character",
+        "Large", "Locked", "Loose", "Offset", "Length", "End", "ID", "Checksum", "Second", "Word", "High",
     ];
     NAMES.get(number as usize).copied().unwrap_or("unknown")
 }

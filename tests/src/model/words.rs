@@ -51,7 +51,7 @@ fn meaning(word: u16) -> Option<Vec<u8>> {
 
 /// "21 a character above 7F". A run of the 39 is cut in threes from its start; a character outside them stands alone.
 fn words_of(text: &[u8]) -> Result<Vec<u16>, u32> {
-    need(text.is_ascii(), refusal::CHARACTER)?;
+    need(text.is_ascii(), refusal::HIGH)?;
     let runs = text.chunk_by(|one, next| value(*one).is_some() && value(*next).is_some());
     let words = runs.flat_map(|run| match value(run[0]) {
         Some(_) => run.chunks(3).map(packed).collect(),
