@@ -83,10 +83,10 @@ static const struct row {
 
 enum { ROWS = sizeof rows / sizeof rows[0] };
 
-enum call { READ, WRITE, EDIT, TEXT, WORDS, CALLS };
+enum call { READ, WRITE, EDIT, TO_TEXT, TO_WORDS, CALLS };
 
 static const char *const call_names[CALLS] = {
-    "read", "write", "edit", "text", "words"
+    "read", "write", "edit", "to_text", "to_words"
 };
 
 enum {
@@ -276,8 +276,8 @@ static void make_tags(const struct row *row, const struct library *by,
 }
 
 /* A text is one of these over and over. The first 24 characters of a CODE40 one
-   are an owner, an identifier and a set; its length is no multiple of 3, so that
-   the words do not soon repeat. In a MIXED one a quarter to a half of the
+   are an owner, an identifier and a set; its length is no multiple of 3, so
+   that the words do not soon repeat. In a MIXED one a quarter to a half of the
    characters are outside the 39, with no, one or two pads before them. */
 static void make_texts(const struct row *row, const struct library *by,
                        struct inputs *in)
@@ -326,13 +326,13 @@ static void make_inputs(const struct row *row, const struct library *by,
    tag is only read. */
 static int first_call(const struct row *row)
 {
-    return is_text_row(row) ? TEXT : READ;
+    return is_text_row(row) ? TO_TEXT : READ;
 }
 
 static int end_of_calls(const struct row *row)
 {
     if (is_text_row(row))
-        return WORDS + 1;
+        return TO_WORDS + 1;
     return row->kind == BROKEN ? READ + 1 : EDIT + 1;
 }
 
@@ -362,7 +362,7 @@ static uint32_t make_call(const struct library *lib, enum call call,
                          in->number, in->values[k], in->value_lens[k],
                          out->old, sizeof out->old, &out->pages,
                          &out->len, &out->place);
-    case TEXT:
+    case TO_TEXT:
         return lib->to_text(in->words[k], in->words_lens[k], out->text,
                             sizeof out->text, &out->len);
     default:
@@ -389,9 +389,9 @@ static int is_idle(enum call call, const struct inputs *in,
 {
     if (call == WRITE || call == EDIT)
         return out->pages == 0;
-    if (call == TEXT)
+    if (call == TO_TEXT)
         return memcmp(out->text, in->texts[turns - 1], in->text_len) != 0;
-    return call == WORDS && out->len == 0;
+    return call == TO_WORDS && out->len == 0;
 }
 
 /* All libraries must do the same, and do something where they should. */
@@ -452,7 +452,7 @@ static double median(double *times, size_t count)
 
 static void print_name(const struct row *row, enum call call)
 {
-    printf("%5lu  %-6s  %-5s", (unsigned long)row->len,
+    printf("%5lu  %-6s  %-8s", (unsigned long)row->len,
            kind_names[row->kind], call_names[call]);
 }
 

@@ -21,10 +21,10 @@ enum {
     STEP = 64        /* bytes that are looked at together; divides the others */
 };
 
-enum call { READ, WRITE, EDIT, TEXT, WORDS, CALLS };
+enum call { READ, WRITE, EDIT, TO_TEXT, TO_WORDS, CALLS };
 
 static const char *const call_names[CALLS] = {
-    "read", "write", "edit", "text", "words"
+    "read", "write", "edit", "to_text", "to_words"
 };
 
 static size_t deepest[CALLS][2];  /* done, refused */
@@ -125,8 +125,8 @@ uint32_t stack_words_to_text(const uint16_t *words, size_t words_len,
 
     GET_STACK_POINTER(top);
     paint(top);
-    return noted(TEXT, top, urp_words_to_text(words, words_len, text, text_len,
-                                              used));
+    return noted(TO_TEXT, top, urp_words_to_text(words, words_len, text,
+                                                 text_len, used));
 }
 
 uint32_t stack_text_to_words(const uint8_t *text, size_t text_len,
@@ -137,6 +137,6 @@ uint32_t stack_text_to_words(const uint8_t *text, size_t text_len,
 
     GET_STACK_POINTER(top);
     paint(top);
-    return noted(WORDS, top, urp_text_to_words(text, text_len, words,
-                                               words_len, used));
+    return noted(TO_WORDS, top, urp_text_to_words(text, text_len, words,
+                                                  words_len, used));
 }
