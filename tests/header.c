@@ -479,7 +479,7 @@ static void other_words(void)
 {
     unsigned long number;
     uint16_t word = 0;
-    uint8_t character;
+    uint8_t character = 0;
 
     try_text(&word, 1, 3, URP_WORD, &character, 0);
     for (number = 0xFA01; number <= 0xFFFF; number++) {
