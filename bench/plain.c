@@ -1,4 +1,4 @@
-/* plain.c: the three calls of urpanella.h in plain C, written from documents 01
+/* plain.c: the calls of urpanella.h in plain C, written from documents 01
    and 02. The benchmark holds the proved library against it. */
 #include "urpanella.h"
 
@@ -884,5 +884,175 @@ uint32_t urp_edit(uint8_t *tag, size_t tag_len,
     memcpy(tag, image, tag_len);
     *old_used = before.len;
     *pages = count;
+    return URP_DONE;
+}
+
+/* ---- UHF words ---- */
+
+enum {
+    PAD = 0,
+    WORD_OF_THREE_MIN = 1601,    /* A and two pads; below, a pad comes first */
+    WORD_OF_THREE_MAX = 0xFA00,  /* 999 */
+    ONE_CHARACTER = 0xFC00,      /* with the character in the low byte */
+    CHARACTER_MAX = 0x7F
+};
+
+static const char value_characters[40 + 1] =
+    "\0ABCDEFGHIJKLMNOPQRSTUVWXYZ-.:0123456789";
+
+/* PAD for a character outside the 39. */
+static const uint8_t character_values[CHARACTER_MAX + 1] = {
+    0, 0, 0, 0, 0, 0, 0, 0, 0, 0, 0, 0, 0, 0, 0, 0,
+    0, 0, 0, 0, 0, 0, 0, 0, 0, 0, 0, 0, 0, 0, 0, 0,
+    0, 0, 0, 0, 0, 0, 0, 0, 0, 0, 0, 0, 0, 27, 28, 0,
+    30, 31, 32, 33, 34, 35, 36, 37, 38, 39, 29, 0, 0, 0, 0, 0,
+    0, 1, 2, 3, 4, 5, 6, 7, 8, 9, 10, 11, 12, 13, 14, 15,
+    16, 17, 18, 19, 20, 21, 22, 23, 24, 25, 26, 0, 0, 0, 0, 0,
+    0, 0, 0, 0, 0, 0, 0, 0, 0, 0, 0, 0, 0, 0, 0, 0,
+    0, 0, 0, 0, 0, 0, 0, 0, 0, 0, 0, 0, 0, 0, 0, 0
+};
+
+/* The three values of a word of three. */
+struct three {
+    unsigned first;
+    unsigned second;
+    unsigned third;
+};
+
+static struct three three_of(uint16_t word)
+{
+    unsigned sum = word - 1u, before = sum / 40;
+    struct three values;
+
+    values.first = before / 40;
+    values.second = before % 40;
+    values.third = sum % 40;
+    return values;
+}
+
+/* The count of characters that a word holds, 0 where it has no meaning. */
+static size_t characters_in(uint16_t word)
+{
+    struct three values;
+
+    if (word < WORD_OF_THREE_MIN || word > WORD_OF_THREE_MAX)
+        return word >= ONE_CHARACTER && word <= ONE_CHARACTER + CHARACTER_MAX;
+    values = three_of(word);
+    if (values.second == PAD)
+        return values.third == PAD ? 1 : 0;
+    return values.third == PAD ? 2 : 3;
+}
+
+/* Puts the characters of a word that has a meaning, and gives their count. */
+static size_t put_characters(uint8_t *text, uint16_t word)
+{
+    struct three values;
+
+    if (word >= ONE_CHARACTER) {
+        text[0] = (uint8_t)(word & 0xFF);
+        return 1;
+    }
+    values = three_of(word);
+    text[0] = (uint8_t)value_characters[values.first];
+    if (values.second == PAD)
+        return 1;
+    text[1] = (uint8_t)value_characters[values.second];
+    if (values.third == PAD)
+        return 2;
+    text[2] = (uint8_t)value_characters[values.third];
+    return 3;
+}
+
+uint32_t urp_words_to_text(const uint16_t *words, size_t words_len,
+                           uint8_t *text, size_t text_len,
+                           size_t *used)
+{
+    size_t len = 0, i;
+
+    for (i = 0; i < words_len; i++) {
+        size_t count = characters_in(words[i]);
+
+        if (count == 0)
+            return URP_WORD;
+        len += count;
+    }
+    if (text_len < len)
+        return URP_ROOM;
+
+    for (i = 0; i < words_len; i++)
+        text += put_characters(text, words[i]);
+    *used = len;
+    return URP_DONE;
+}
+
+/* The count of words that a run of the 39 takes. */
+static size_t words_of_run(size_t run)
+{
+    return (run + 2) / 3;
+}
+
+/* Counts the words of a text: 21. */
+static uint32_t count_words(const uint8_t *text, size_t text_len,
+                            size_t *count)
+{
+    size_t n = 0, run = 0, i;
+
+    for (i = 0; i < text_len; i++) {
+        if (text[i] > CHARACTER_MAX)
+            return URP_CHARACTER;
+        if (character_values[text[i]] != PAD) {
+            run++;
+        } else {
+            n += words_of_run(run) + 1;
+            run = 0;
+        }
+    }
+    *count = n + words_of_run(run);
+    return URP_DONE;
+}
+
+/* The value at a place of the text; PAD behind its end, and where a character
+   outside the 39 stands. */
+static unsigned value_at(const uint8_t *text, size_t text_len, size_t at)
+{
+    return at < text_len ? character_values[text[at]] : PAD;
+}
+
+static void put_words(uint16_t *words, const uint8_t *text, size_t text_len)
+{
+    size_t at = 0;
+
+    while (at < text_len) {
+        unsigned first = character_values[text[at]], second, third = PAD;
+
+        if (first == PAD) {
+            *words++ = (uint16_t)(ONE_CHARACTER + text[at++]);
+            continue;
+        }
+        at++;
+        second = value_at(text, text_len, at);
+        if (second != PAD) {
+            at++;
+            third = value_at(text, text_len, at);
+            if (third != PAD)
+                at++;
+        }
+        *words++ = (uint16_t)(1600 * first + 40 * second + third + 1);
+    }
+}
+
+uint32_t urp_text_to_words(const uint8_t *text, size_t text_len,
+                           uint16_t *words, size_t words_len,
+                           size_t *used)
+{
+    size_t count;
+
+    if (count_words(text, text_len, &count) != URP_DONE)
+        return URP_CHARACTER;
+    if (words_len < count)
+        return URP_ROOM;
+
+    put_words(words, text, text_len);
+    *used = count;
     return URP_DONE;
 }

@@ -1,8 +1,11 @@
-/* urpanella.h: RFID tags of libraries (ISO 28560-3), for hosts in C and C++.
+/* urpanella.h: RFID tags of libraries (ISO 28560-3, and the words of UHF tags
+   after ISO/TS 28560-4), for hosts in C and C++.
 
-   Three calls over byte buffers: urp_read takes a tag apart into a sheet of
-   elements, urp_write lays a sheet out on a tag, urp_edit changes one element
-   on a tag. Radio commands and the choice of pages to lock are the host's.
+   Three calls for tags: urp_read takes a tag apart into a sheet of elements,
+   urp_write lays a sheet out on a tag, urp_edit changes one element on a tag.
+   Two for the identifier of a UHF tag: urp_words_to_text reads its words,
+   urp_text_to_words makes them. Radio commands and the choice of pages to lock
+   are the host's.
 
    TAG AND LOCK MAP
    A tag has 32 bytes, or a multiple of 4 from 36 to 2,048. A page is 4 bytes.
@@ -48,6 +51,33 @@
    and the byte 41. The block with the ID 1 is the library's own: it holds what
    has no place in the first 34 bytes, and goes out as its elements.
 
+   UHF WORDS
+   The identifier of a UHF tag is text in URN Code 40: a row of words, which are
+   numbers of sixteen bits. 39 characters have values, and pad stands for none:
+       pad          0
+       A to Z       1 to 26
+       hyphen       27
+       dot          28
+       colon        29
+       0 to 9       30 to 39
+   Three values a, b, c make the word 1600a + 40b + c + 1. A word whose high
+   byte is FC hex holds one character of ISO/IEC 646, 00 to 7F hex, in its low
+   byte.
+   Writing takes the characters from the front: three of the 39 make a word, and
+   a character outside the 39, lower case among them, takes an FC word. One or
+   two of the 39 left before such a character, or at the end, are padded on the
+   right.
+   Reading accepts one or two pads at the right of any word, and FC for any
+   character from 00 to 7F hex, the 39 too. No other word has a meaning: not 0,
+   not 1 (three pads), none with a pad before a character, and above FA00 hex
+   none but FC00 to FC7F. What is written reads back; other words may read as
+   the same text.
+   So CH-000134-1.12345678.31 is, in hex, 141C C04F C70B ADB5 C6E2 DA1D ED4D
+   D319, and DK-1/2.a is 1AD4 C1C1 FC2F CC61 FC61.
+   Words are numbers and not pairs of bytes: 141C hex is 5148, in whichever
+   order the bank has its two bytes. A host that gets bytes makes the numbers
+   first.
+
    OF EVERY CALL
    The answer is 0 when the work is done, else the number of the refusal, one of
    those below. The conditions are tested in the order that is given with the
@@ -58,9 +88,10 @@
    but *place. That is written at 15 to 19: the byte where the damaged block
    begins, counted from 0 at the tag's first byte, so at least 34 and below
    tag_len. At every other answer, 0 among them, it is as it was.
-   A length of 0 means no bytes, and the pointer beside it may then be null. A
-   length is never more than what the buffer has. The results (used, pages,
-   old_used, place) are never null.
+   A length counts bytes, or words where the buffer is of uint16_t. A length of
+   0 means none, and the pointer beside it may then be null. A length is never
+   more than what the buffer has. The results (used, pages, old_used, place) are
+   never null.
    The buffers and results of one call are separate: none overlaps another.
    Nothing is kept from one call to the next and nothing is allocated, so calls
    on different buffers may run at the same time.
@@ -110,8 +141,8 @@ extern "C" {
 #define URP_DONE 0
 #define URP_SIZE 1      /* tag length; or a lock map that has not one byte for
                            each page, or a byte above 1 */
-#define URP_ROOM 2      /* sheet buffer too short, or old-element buffer under
-                           255 bytes */
+#define URP_ROOM 2      /* buffer for the sheet, text or words too short, or
+                           old-element buffer under 255 bytes */
 #define URP_CONTENT 3   /* content parameter not 1 */
 #define URP_CHECK 4     /* CRC differs */
 #define URP_FIELD 6     /* a field breaks its form, or the tag has an ordinal
@@ -133,6 +164,10 @@ extern "C" {
                                   fewer than 4 bytes */
 #define URP_BLOCK_CHECKSUM 18  /* a block's checksum differs */
 #define URP_BLOCK_SECOND 19    /* a second block 1 */
+
+/* UHF words. */
+#define URP_WORD 20       /* reading: a word with no meaning */
+#define URP_CHARACTER 21  /* writing: a character above 7F hex */
 
 /* Is this an answer that comes with a place, one of 15 to 19? The argument is
    evaluated once. */
@@ -192,6 +227,30 @@ uint32_t urp_edit(uint8_t *tag, size_t tag_len,
                   const uint8_t *value, size_t value_len,
                   uint8_t *old, size_t old_len,
                   size_t *pages, size_t *old_used, size_t *place);
+
+/* Reads words of a UHF tag into the text that they stand for.
+   Takes   words[0 .. words_len): the words. They are only read.
+           text[0 .. text_len): room for the text; 3 bytes for each word always
+           suffice, and room for exactly the text is enough.
+   Done    text[0 .. *used) is the text, one byte for each character, 00 to 7F
+           hex, with no 00 behind it; *used is its length. The bytes of the
+           buffer from there on are as they were. No words give no text.
+   Refuses 20 2, in this order. */
+uint32_t urp_words_to_text(const uint16_t *words, size_t words_len,
+                           uint8_t *text, size_t text_len,
+                           size_t *used);
+
+/* Makes the words of a text.
+   Takes   text[0 .. text_len): the text, one byte for each character. It is
+           only read.
+           words[0 .. words_len): room for the words; one for each character
+           always suffices, and room for exactly the words is enough.
+   Done    words[0 .. *used) are the words and *used is their count; the words
+           of the buffer from there on are as they were. No text gives no words.
+   Refuses 21 2, in this order. */
+uint32_t urp_text_to_words(const uint8_t *text, size_t text_len,
+                           uint16_t *words, size_t words_len,
+                           size_t *used);
 
 #ifdef __cplusplus
 }

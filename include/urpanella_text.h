@@ -16,7 +16,7 @@
 #define URP_HERE static
 #endif
 
-/* One sentence for each answer of the three calls; never null. */
+/* One sentence for each answer of the calls; never null. */
 URP_HERE const char *urp_refusal_text(uint32_t answer)
 {
     switch (answer) {
@@ -39,6 +39,8 @@ URP_HERE const char *urp_refusal_text(uint32_t answer)
     case URP_BLOCK_ID: return "block: its ID is 0, or it has too few bytes";
     case URP_BLOCK_CHECKSUM: return "block: its checksum differs";
     case URP_BLOCK_SECOND: return "block: it is a second block 1";
+    case URP_WORD: return "word: a word has no meaning";
+    case URP_CHARACTER: return "character: a character is above 7F";
     default: return "not an answer of this library";
     }
 }

@@ -1,8 +1,9 @@
 /* Runs a library with the interface of urpanella.h on cases from standard input.
 
-   A case: the call (1 read, 2 write, 3 edit), a byte of flags (bit k below 4: buffer k, where it has no bytes, is
-   passed as a null pointer; bit 7: the side of the guard page), the element number (4 bytes), the length of each
-   buffer (4 bytes each), the bytes of each buffer. Buffers come in the order of the call's parameters.
+   A case: the call (1 read, 2 write, 3 edit, 4 words to text, 5 text to words), a byte of flags (bit k below 4: buffer
+   k, where it has no bytes, is passed as a null pointer; bit 7: the side of the guard page), the element number (4
+   bytes), the length of each buffer in bytes (4 bytes each), the bytes of each buffer. Buffers come in the order of the
+   call's parameters. Words are two bytes each, low byte first, which is how the machines here hold them.
 
    An outcome: the answer (4 bytes), then each result and each buffer as it is afterwards, after the canary bytes that
    stand beside it. Results (used, pages, old_used, place) come in the order of the call's parameters too. Numbers are
@@ -39,7 +40,7 @@ extern void *memcpy(void *, const void *, size_t);
 
 #include "urpanella.h"
 
-enum { READ = 1, WRITE = 2, EDIT = 3 };
+enum { READ = 1, WRITE = 2, EDIT = 3, TO_TEXT = 4, TO_WORDS = 5 };
 enum { MOST_BUFFERS = 4, MOST_RESULTS = 3, PLACES = MOST_BUFFERS + MOST_RESULTS };
 enum { CANARY = 32, PRESET = 0xA5 };
 enum { BEHIND_GUARD = 0x80 };
@@ -173,6 +174,11 @@ static size_t *placed_result(int place, uint8_t flags)
     return (size_t *)(void *)start;
 }
 
+/* What each call has: buffers, results, and the buffer that is of words, if there is one. */
+static const struct {
+    int buffers, results, of_words;
+} calls[] = {{0, 0, -1}, {2, 2, -1}, {3, 1, -1}, {4, 3, -1}, {2, 1, 0}, {2, 1, 1}};
+
 struct work {
     uint8_t call;
     uint8_t flags;
@@ -191,14 +197,16 @@ static void take_work(struct work *w)
     take(&w->call, 1);
     take(&w->flags, 1);
     w->number = take_number();
-    if (w->call < READ || w->call > EDIT)
+    if (w->call < READ || w->call > TO_WORDS)
         stop("driver: a call that does not exist\n");
-    w->buffers = w->call == READ ? 2 : w->call == WRITE ? 3 : 4;
-    w->results = w->call == READ ? 2 : w->call == WRITE ? 1 : 3;
+    w->buffers = calls[w->call].buffers;
+    w->results = calls[w->call].results;
     for (i = 0; i < w->buffers; i++) {
         w->length[i] = take_number();
         if (w->length[i] > ROOM - CANARY)
             stop("driver: a buffer too long\n");
+        if (i == calls[w->call].of_words && w->length[i] % 2 != 0)
+            stop("driver: half a word\n");
     }
     for (i = 0; i < w->buffers; i++) {
         w->start[i] = placed(i, w->length[i], w->flags);
@@ -220,6 +228,10 @@ static uint32_t run(const struct work *w)
         return urp_read(b[0], n[0], b[1], n[1], r[0], r[1]);
     case WRITE:
         return urp_write(b[0], n[0], b[1], n[1], b[2], n[2], r[0]);
+    case TO_TEXT:
+        return urp_words_to_text((const uint16_t *)(void *)b[0], n[0] / 2, b[1], n[1], r[0]);
+    case TO_WORDS:
+        return urp_text_to_words(b[0], n[0], (uint16_t *)(void *)b[1], n[1] / 2, r[0]);
     default:
         return urp_edit(b[0], n[0], b[1], n[1], w->number, b[2], n[2], b[3], n[3], r[0], r[1], r[2]);
     }

@@ -10,6 +10,8 @@ pub mod history_cases;
 pub mod read_cases;
 pub mod report;
 pub mod taglist;
+pub mod to_text_cases;
+pub mod to_words_cases;
 pub mod torn_cases;
 pub mod write_cases;
 
@@ -24,6 +26,8 @@ pub fn run(arguments: &Arguments) -> Result<String, String> {
         Subject::Read => vec![boxed(read_cases::all(seed, count))],
         Subject::Write => vec![boxed(write_cases::all(seed, count))],
         Subject::Edit => vec![boxed(edit_cases::all(seed, count))],
+        Subject::ToText => vec![boxed(to_text_cases::all(seed, count))],
+        Subject::ToWords => vec![boxed(to_words_cases::all(seed, count))],
         Subject::Histories => vec![Box::new(history_cases::all(seed, count))],
         Subject::Torn => shared(seed, count, torn_cases::all),
         Subject::Changed => changed_cases::shares(seed, count),

@@ -52,3 +52,8 @@ pub const WHOLE_CASE_LISTING: &str = "elements 3\n1 4231\n4 01000100\n5 10\n";
 pub fn all() -> [Example; 3] {
     [b1(), b2(), whole_case()]
 }
+
+/// Request E2's text and its words; source document 002, 7.3.5.3 and 7.3.7, has the text, and D.2.3 the words but for the
+/// fifth.
+pub const TEXT: &[u8] = b"CH-000134-1.12345678.31";
+pub const WORDS: [u16; 8] = [0x141C, 0xC04F, 0xC70B, 0xADB5, 0xC6E2, 0xDA1D, 0xED4D, 0xD319];

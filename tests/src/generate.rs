@@ -6,3 +6,4 @@ pub mod locks;
 pub mod sheets;
 pub mod tags;
 pub mod values;
+pub mod words;

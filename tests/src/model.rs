@@ -1,5 +1,5 @@
-//! Document 01's rules, and request E1 of document 02, each in one place. The three calls work on lent bytes, as the
-//! library's do.
+//! Document 01's rules, and requests E1 and E2 of document 02, each in one place. The calls work on lent bytes and words,
+//! as the library's do.
 //!
 //! What a later request changes stands alone: the text rule in [`text`], the page size in [`pages`], the list of element
 //! numbers in [`element`].
@@ -19,6 +19,7 @@ pub mod reading;
 pub mod refusal;
 pub mod sheet;
 pub mod text;
+pub mod words;
 pub mod writing;
 
 pub use content::Content;
@@ -26,4 +27,5 @@ pub use editing::{editing, Edited};
 pub use listing::listing;
 pub use reading::reading;
 pub use refusal::Refusal;
+pub use words::{text_to_words, words_to_text};
 pub use writing::writing;

@@ -6,7 +6,7 @@
 //! has the place too.
 
 use crate::build;
-use crate::compare::case::{Call, Case, Outcome};
+use crate::compare::case::{in_words, Call, Case, Outcome};
 use crate::compare::engine::Link;
 use crate::generate::locks;
 use crate::model::{listing, refusal, sheet, Content, Refusal};
@@ -156,6 +156,32 @@ pub fn damage(tag: &[u8]) -> Option<(u32, usize)> {
         assert_eq!(listing(tag), format!("refused {number} {place}\n"));
     }
     read
+}
+
+/// The text of the words, into a buffer of this length.
+pub fn to_text_into(words: &[u16], room: usize) -> Result<Vec<u8>, u32> {
+    let call = Call::to_text(words, unlike_anything(room));
+    let before = call.buffers[0].clone();
+    let done = numbered(call)?;
+    assert_eq!(done.buffers[0], before, "words that were read have changed");
+    Ok(filled_part(&done.buffers[1], done.results[0]))
+}
+
+/// The text of the words.
+pub fn to_text(words: &[u16]) -> Result<Vec<u8>, u32> {
+    to_text_into(words, 3 * words.len() + 1)
+}
+
+/// The words of the text, into a buffer for so many.
+pub fn to_words_into(text: &[u8], room: usize) -> Result<Vec<u16>, u32> {
+    let done = numbered(Call::to_words(text.to_vec(), &in_words(&unlike_anything(2 * room))))?;
+    assert_eq!(done.buffers[0], text, "a text that was read has changed");
+    Ok(in_words(&filled_part(&done.buffers[1], 2 * done.results[0])))
+}
+
+/// The words of the text.
+pub fn to_words(text: &[u8]) -> Result<Vec<u16>, u32> {
+    to_words_into(text, text.len() + 1)
 }
 
 /// A sheet of these entries besides 4 (1 of 1) and 5 (main qualifier 1), each at its place.

@@ -12,5 +12,6 @@ mod readings_24_to_32;
 mod readings_33_to_39;
 mod refusals;
 mod requests_e01;
+mod requests_e02;
 mod round_trips;
 mod slips;

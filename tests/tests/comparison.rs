@@ -1,10 +1,12 @@
 //! The comparison sees what it is there to see, and bad arguments get one line.
 
 use independent::compare::arguments::{parse, Subject};
-use independent::compare::case::{Call, Case, Placing};
+use independent::compare::case::{in_bytes, Call, Case, Placing, PRESET};
 use independent::compare::engine::{collect, shared};
-use independent::compare::{changed_cases, edit_cases, read_cases, run, taglist, torn_cases, write_cases};
-use independent::examples::b2;
+use independent::compare::{
+    changed_cases, edit_cases, read_cases, run, taglist, to_text_cases, to_words_cases, torn_cases, write_cases,
+};
+use independent::examples::{b2, TEXT, WORDS};
 use independent::generate::locks;
 use independent::model::{chain, listing, pages};
 use independent::random::Random;
@@ -39,6 +41,8 @@ fn bad_arguments_get_one_clear_line() {
 fn a_program_that_stops_or_prints_otherwise_is_seen() {
     assert!(complaint("read 1 2 true").contains("the driver stopped"));
     assert!(complaint("edit 1 2 false").contains("the driver stopped"));
+    assert!(complaint("to_text 1 2 true").contains("the driver stopped"));
+    assert!(complaint("to_words 1 2 true").contains("the driver stopped"));
     assert!(complaint("changed 1 2 true").contains("the driver stopped"));
     assert!(complaint("faults 1 2 false").starts_with("faults, torn writes: compare: the driver stopped"));
     assert!(complaint("taglist 1 0 cat").contains("instead of \"elements 4"));
@@ -115,12 +119,52 @@ fn outcomes_are_those_of_the_papers() {
 }
 
 #[test]
+fn words_are_framed_low_byte_first_and_told_as_the_papers_print_them() {
+    let placing = Placing { null: false, behind_guard: false };
+    let call = Call::to_text(&[0x141C, 0xFC61], vec![7, 8]);
+    assert_eq!(call.frame(placing), [4, 0, 0, 0, 0, 0, 4, 0, 0, 0, 2, 0, 0, 0, 0x1C, 0x14, 0x61, 0xFC, 7, 8]);
+    assert_eq!(call.describe(), "to_text words=141C FC61 text[2]");
+    let call = Call::to_words(b"CH-".to_vec(), &[0xEEEE, 0x1234]);
+    assert_eq!(
+        call.frame(placing),
+        [5, 0, 0, 0, 0, 0, 3, 0, 0, 0, 4, 0, 0, 0, b'C', b'H', b'-', 0xEE, 0xEE, 0x34, 0x12]
+    );
+    assert_eq!(call.describe(), "to_words text=43482D words[2]");
+    let done = call.outcome();
+    assert_eq!((done.answer, &done.results[..], &done.buffers[1][..]), (0, &[1][..], &[0x1C, 0x14, 0x34, 0x12][..]));
+    let done = Call::to_text(&WORDS, vec![0; 24]).outcome();
+    assert_eq!((done.answer, &done.results[..], &done.buffers[1][..23]), (0, &[23][..], TEXT));
+    let refused = Call::to_text(&WORDS, vec![0; 22]).outcome();
+    assert_eq!(
+        (refused.answer, &refused.results[..], refused.buffers),
+        (2, &[PRESET][..], vec![in_bytes(&WORDS), vec![0; 22]])
+    );
+}
+
+#[test]
+fn words_of_a_text_are_expected_to_read_back_whatever_the_model_says() {
+    let cases = to_text_cases::random(1, 3000).filter(|case| case.group == "words of a text, read back");
+    let cases: Vec<Case> = cases.collect();
+    assert!(cases.len() > 400);
+    for case in cases {
+        let text = &case.expected.buffers[1][..case.expected.results[0] as usize];
+        assert_eq!(case.call.outcome().frame(), case.expected.frame());
+        assert_eq!(
+            Call::to_words(text.to_vec(), &vec![0; text.len()]).outcome().buffers[1][..case.call.buffers[0].len()],
+            case.call.buffers[0]
+        );
+    }
+}
+
+#[test]
 fn fixed_cases_alone_meet_every_refusal() {
     let answers = |cases: &mut dyn Iterator<Item = Case>| cases.map(|case| case.expected.answer).collect();
-    let met: [(Subject, BTreeSet<u32>); 3] = [
+    let met: [(Subject, BTreeSet<u32>); 5] = [
         (Subject::Read, answers(&mut read_cases::all(1, 0))),
         (Subject::Write, answers(&mut write_cases::all(1, 0))),
         (Subject::Edit, answers(&mut edit_cases::all(1, 0))),
+        (Subject::ToText, answers(&mut to_text_cases::all(1, 0))),
+        (Subject::ToWords, answers(&mut to_words_cases::all(1, 0))),
     ];
     for (subject, met) in met {
         assert!(

@@ -2,10 +2,12 @@
 
 use independent::build::hex;
 use independent::generate::damaged::{self, Damaged};
-use independent::generate::{edits, locks, sheets, tags};
+use independent::generate::{edits, locks, sheets, tags, words};
 use independent::model::block_one::BlockOne;
-use independent::model::refusal::{DAMAGE, EDITING, OFFSET, READING, WRITING};
-use independent::model::{chain, editing, element, pages, reading, sheet, writing, Refusal};
+use independent::model::refusal::{DAMAGE, EDITING, OFFSET, READING, TO_TEXT, TO_WORDS, WRITING};
+use independent::model::{
+    chain, editing, element, pages, reading, sheet, text_to_words, words_to_text, writing, Refusal,
+};
 use independent::random::Random;
 use independent::trial::damage;
 use std::collections::{BTreeMap, BTreeSet};
@@ -213,6 +215,107 @@ fn damage_stands_behind_damage_of_every_number() {
     let pairs = DAMAGE.iter().flat_map(|first| DAMAGE.map(|second| (*first, second)));
     assert_eq!(met.len(), 25 - 5, "{met:?}");
     assert!(pairs.filter(|(first, _)| *first != 16).all(|pair| met.contains(&pair)), "{met:?}");
+}
+
+#[test]
+fn words_and_texts_are_good_and_bad_as_they_were_made_to_be() {
+    let mut random = Random::new(31);
+    for _ in 0..5000 {
+        let (bank, text) = words::bank(&mut random);
+        let mut read = vec![0; text.len()];
+        assert_eq!(words_to_text(&bank, &mut read), Ok(text.len()));
+        assert_eq!(read, text);
+        let spoiled = words::spoiled_bank(&mut random);
+        assert_eq!(words_to_text(&spoiled, &mut vec![0; 3 * spoiled.len()]), Err(20));
+        let text = words::text(&mut random);
+        assert!(text_to_words(&text, &mut vec![0; text.len()]).is_ok());
+        let spoiled = words::spoiled_text(&mut random);
+        assert_eq!(text_to_words(&spoiled, &mut vec![0; spoiled.len()]), Err(21));
+    }
+    for bad in words::BAD_EDGES {
+        assert_eq!(words_to_text(&[bad], &mut [0; 3]), Err(20), "{bad:04X}");
+    }
+    let outside = |byte: &u8| *byte < 0x80 && !words::BASIC.contains(byte);
+    assert!(words::BESIDE.iter().all(outside));
+}
+
+/// Which kind of word without a meaning this is.
+fn kind_of_bad(word: u16) -> &'static str {
+    let sum = word.saturating_sub(1);
+    match (word, [sum / 1600, sum / 40 % 40, sum % 40].map(|value| value == 0)) {
+        (0xFC00..=0xFC7F, _) => "a meaning",
+        (0, _) => "0000",
+        (0xFA01..=0xFAFF, _) => "FA",
+        (0xFB00..=0xFBFF, _) => "FB",
+        (0xFC80..=0xFCFF, _) => "FC",
+        (0xFD00..=0xFDFF, _) => "FD",
+        (0xFE00..=0xFEFF, _) => "FE",
+        (0xFF00..=0xFFFF, _) => "FF",
+        (_, [true, true, true]) => "three pads",
+        (_, [true, true, false]) => "pad, pad, A",
+        (_, [true, false, true]) => "pad, A, pad",
+        (_, [true, false, false]) => "pad, A, B",
+        (_, [false, true, false]) => "A, pad, B",
+        _ => "a meaning",
+    }
+}
+
+#[test]
+fn words_without_a_meaning_are_of_every_kind_and_stand_everywhere() {
+    let mut random = Random::new(32);
+    let (mut kinds, mut standings): (BTreeMap<&str, usize>, BTreeMap<&str, usize>) = Default::default();
+    for _ in 0..10_000 {
+        *kinds.entry(kind_of_bad(words::bad(&mut random))).or_default() += 1;
+        let bank = words::spoiled_bank(&mut random);
+        let place = bank.iter().position(|word| kind_of_bad(*word) != "a meaning");
+        let standing = match (place.unwrap(), bank.len()) {
+            (_, 1) => "alone",
+            (0, _) => "first",
+            (place, length) if place + 1 == length => "last",
+            _ => "between others",
+        };
+        *standings.entry(standing).or_default() += 1;
+    }
+    assert!(kinds.len() == 12 && kinds.values().all(|times| *times > 100), "{kinds:?}");
+    assert!(standings.len() == 4 && standings.values().all(|times| *times > 100), "{standings:?}");
+}
+
+#[test]
+fn words_and_texts_meet_every_refusal_in_rooms_of_every_kind() {
+    let (mut random, mut to_text, mut to_words) = (Random::new(33), BTreeMap::new(), BTreeMap::new());
+    // How much the room is off by, where a bank or a text is good.
+    let mut off = BTreeSet::new();
+    for _ in 0..10_000 {
+        let (bank, text) = words::bank(&mut random);
+        let room = words::room(&mut random, text.len());
+        off.insert((room as isize - text.len() as isize).clamp(-2, 2));
+        *to_text.entry(number(words_to_text(&bank, &mut vec![0; room]))).or_default() += 1;
+        *to_text.entry(number(words_to_text(&words::spoiled_bank(&mut random), &mut vec![0; room]))).or_default() += 1;
+        for text in [words::text(&mut random), words::spoiled_text(&mut random)] {
+            let room = words::room(&mut random, text.len() / 2);
+            *to_words.entry(number(text_to_words(&text, &mut vec![0; room]))).or_default() += 1;
+        }
+    }
+    all_met(&to_text, &TO_TEXT, 1000);
+    all_met(&to_words, &TO_WORDS, 1000);
+    assert_eq!(off.into_iter().collect::<Vec<_>>(), [-2, -1, 0, 1, 2]);
+}
+
+/// The lengths of the runs of the 39 in a text.
+fn runs(text: &[u8]) -> impl Iterator<Item = usize> + '_ {
+    text.split(|byte| !words::BASIC.contains(byte)).map(<[u8]>::len)
+}
+
+#[test]
+fn texts_have_runs_of_every_length_and_every_character() {
+    let mut random = Random::new(34);
+    let (mut lengths, mut bytes) = (BTreeSet::new(), BTreeSet::new());
+    for text in (0..20_000).map(|_| words::text(&mut random)) {
+        lengths.extend(runs(&text));
+        bytes.extend(text);
+    }
+    assert!((0..=15).all(|length| lengths.contains(&length)) && lengths.last() > Some(&300), "{lengths:?}");
+    assert!(bytes.into_iter().eq(0..=0x7F), "each of the 128, and no other");
 }
 
 #[test]

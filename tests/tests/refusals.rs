@@ -3,9 +3,12 @@
 
 use independent::build::{self, block, Draft};
 use independent::generate::locks;
-use independent::model::refusal::{name, EDITING, OFFSET, READING, WRITING};
+use independent::model::refusal::{name, EDITING, OFFSET, READING, TO_TEXT, TO_WORDS, WRITING};
 use independent::model::sheet;
-use independent::trial::{carrying, damage, edit_under, edited, read, read_into, sheet_with, tag_with, write, written};
+use independent::trial::{
+    carrying, damage, edit_under, edited, read, read_into, sheet_with, tag_with, to_text_into, to_words_into, write,
+    written,
+};
 
 /// Tags of 64 bytes, each with one fault, and the refusal that reading and editing give for it.
 fn faulty_tags() -> Vec<(u32, Vec<u8>)> {
@@ -58,8 +61,8 @@ fn reading_gives_each_refusal() {
 #[test]
 fn the_numbers_have_the_words_of_the_table() {
     let table = "accepted Size Room Content Check retired Field Mismatch Sheet Value Clash Large Locked Loose Offset \
-                 Length End ID Checksum Second unknown";
-    assert_eq!((0..=20).map(name).collect::<Vec<_>>().join(" "), table);
+                 Length End ID Checksum Second Word High unknown";
+    assert_eq!((0..=22).map(name).collect::<Vec<_>>().join(" "), table);
 }
 
 #[test]
@@ -185,4 +188,22 @@ fn editing_with_all_faults_at_once_gives_them_in_order() {
     assert_eq!(met, EDITING.map(Err));
     // The owner on pages 5 and 6, the CRC on pages 4 and 5.
     assert_eq!(edit_under(&mut tag, &[0; 16], 23, b"\x02x", 255), Ok((3, vec![])));
+}
+
+#[test]
+fn words_into_text_gives_20_before_2() {
+    assert_eq!(TO_TEXT, [20, 2]);
+    assert_eq!(to_text_into(&[0x141C, 0x0001], 2), Err(20));
+    assert_eq!(to_text_into(&[0x141C, 0x0001], 6), Err(20));
+    assert_eq!(to_text_into(&[0x141C], 2), Err(2));
+    assert_eq!(to_text_into(&[0x141C], 3), Ok(b"CH-".to_vec()));
+}
+
+#[test]
+fn text_into_words_gives_21_before_2() {
+    assert_eq!(TO_WORDS, [21, 2]);
+    assert_eq!(to_words_into(b"CH-\x80", 0), Err(21));
+    assert_eq!(to_words_into(b"CH-\x80", 4), Err(21));
+    assert_eq!(to_words_into(b"CH-", 0), Err(2));
+    assert_eq!(to_words_into(b"CH-", 1), Ok(vec![0x141C]));
 }

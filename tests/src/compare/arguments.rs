@@ -1,18 +1,20 @@
 //! What the command line asks for.
 
 use crate::model::refusal::{
-    self, CHECK, CLASH, CONTENT, DAMAGE, EDITING, FIELD, LARGE, LOCKED, LOOSE, MISMATCH, OFFSET, READING, VALUE,
-    WRITING,
+    self, CHECK, CLASH, CONTENT, DAMAGE, EDITING, FIELD, LARGE, LOCKED, LOOSE, MISMATCH, OFFSET, READING, TO_TEXT,
+    TO_WORDS, VALUE, WRITING,
 };
 
 pub const USAGE: &str =
-    "usage: compare read|write|edit|histories|torn|changed|faults|taglist SEED COUNT PROGRAM [ARGUMENT ..]";
+    "usage: compare read|write|edit|to_text|to_words|histories|torn|changed|faults|taglist SEED COUNT PROGRAM [ARGUMENT ..]";
 
 #[derive(Clone, Copy, PartialEq, Eq)]
 pub enum Subject {
     Read,
     Write,
     Edit,
+    ToText,
+    ToWords,
     Histories,
     Torn,
     Changed,
@@ -29,10 +31,12 @@ pub struct Arguments {
 }
 
 impl Subject {
-    const ALL: [Subject; 8] = [
+    const ALL: [Subject; 10] = [
         Subject::Read,
         Subject::Write,
         Subject::Edit,
+        Subject::ToText,
+        Subject::ToWords,
         Subject::Histories,
         Subject::Torn,
         Subject::Changed,
@@ -45,6 +49,8 @@ impl Subject {
             Subject::Read => "read",
             Subject::Write => "write",
             Subject::Edit => "edit",
+            Subject::ToText => "to_text",
+            Subject::ToWords => "to_words",
             Subject::Histories => "histories",
             Subject::Torn => "torn",
             Subject::Changed => "changed",
@@ -59,6 +65,8 @@ impl Subject {
             Subject::Read => READING.to_vec(),
             Subject::Write => WRITING.to_vec(),
             Subject::Edit => EDITING.to_vec(),
+            Subject::ToText => TO_TEXT.to_vec(),
+            Subject::ToWords => TO_WORDS.to_vec(),
             Subject::Histories => vec![refusal::ROOM, VALUE, CLASH, LARGE, LOCKED],
             Subject::Torn => [&[CHECK], &DAMAGE[..], &[MISMATCH, LOOSE, VALUE, CLASH, LARGE, LOCKED]].concat(),
             Subject::Changed => {

@@ -13,6 +13,8 @@ pub enum Kind {
     Read = 1,
     Write = 2,
     Edit = 3,
+    ToText = 4,
+    ToWords = 5,
 }
 
 /// How the driver passes the buffers of a call.
@@ -38,7 +40,7 @@ impl Placing {
     }
 }
 
-/// A call with its buffers in the order of the C parameters.
+/// A call with its buffers in the order of the C parameters; words as [`in_bytes`] has them.
 #[derive(Clone)]
 pub struct Call {
     kind: Kind,
@@ -74,6 +76,14 @@ impl Call {
         Call { kind: Kind::Edit, number, buffers: vec![tag, locks, value, old] }
     }
 
+    pub fn to_text(words: &[u16], text: Vec<u8>) -> Call {
+        Call { kind: Kind::ToText, number: 0, buffers: vec![in_bytes(words), text] }
+    }
+
+    pub fn to_words(text: Vec<u8>, words: &[u16]) -> Call {
+        Call { kind: Kind::ToWords, number: 0, buffers: vec![text, in_bytes(words)] }
+    }
+
     /// The outcome by the model. A call that is done writes every result but the place; a refusal writes none but that.
     pub fn outcome(&self) -> Outcome {
         let mut buffers = self.buffers.clone();
@@ -84,6 +94,15 @@ impl Call {
             }
             (Kind::Edit, [tag, locks, value, old]) => {
                 model::editing(tag, locks, self.number, value, old).map(|edited| vec![edited.pages, edited.old_length])
+            }
+            (Kind::ToText, [words, text]) => {
+                model::words_to_text(&in_words(words), text).map(|used| vec![used]).map_err(Refusal::from)
+            }
+            (Kind::ToWords, [text, buffer]) => {
+                let mut words = in_words(buffer);
+                let done = model::text_to_words(text, &mut words);
+                *buffer = in_bytes(&words);
+                done.map(|used| vec![used]).map_err(Refusal::from)
             }
             _ => unreachable!("the constructors give each call its buffers"),
         };
@@ -102,6 +121,7 @@ impl Call {
             Kind::Read => &["used", "place"],
             Kind::Write => &["pages"],
             Kind::Edit => &["pages", "old_used", "place"],
+            Kind::ToText | Kind::ToWords => &["used"],
         }
     }
 
@@ -110,6 +130,8 @@ impl Call {
             Kind::Read => &["tag", "sheet"],
             Kind::Write => &["sheet", "tag", "locks"],
             Kind::Edit => &["tag", "locks", "value", "old"],
+            Kind::ToText => &["words", "text"],
+            Kind::ToWords => &["text", "words"],
         }
     }
 
@@ -131,24 +153,42 @@ impl Call {
 
     /// The call in one line; of a buffer that is only filled, its length.
     pub fn describe(&self) -> String {
-        let mut words = String::from(match self.kind {
-            Kind::Read => "read",
-            Kind::Write => "write",
-            Kind::Edit => "edit",
-        });
+        let (name, only_filled) = match self.kind {
+            Kind::Read => ("read", "sheet"),
+            Kind::Write => ("write", ""),
+            Kind::Edit => ("edit", "old"),
+            Kind::ToText => ("to_text", "text"),
+            Kind::ToWords => ("to_words", "words"),
+        };
+        let mut line = name.to_string();
         if self.kind == Kind::Edit {
-            words += &format!(" number={}", self.number);
+            line += &format!(" number={}", self.number);
         }
         for (name, buffer) in self.buffer_names().iter().zip(&self.buffers) {
-            let only_filled = *name == "old" || (*name == "sheet" && self.kind == Kind::Read);
-            words += &if only_filled {
-                format!(" {name}[{}]", buffer.len())
-            } else {
-                format!(" {name}={}", capital_hex(buffer))
+            let length = if *name == "words" { buffer.len() / 2 } else { buffer.len() };
+            line += &match *name {
+                _ if *name == only_filled => format!(" {name}[{length}]"),
+                "words" => format!(" {name}={}", hex_words(&in_words(buffer))),
+                _ => format!(" {name}={}", capital_hex(buffer)),
             };
         }
-        words
+        line
     }
+}
+
+/// The bytes of words in a frame and in a driver's memory: low byte first.
+pub fn in_bytes(words: &[u16]) -> Vec<u8> {
+    words.iter().flat_map(|word| word.to_le_bytes()).collect()
+}
+
+/// The words that these bytes are.
+pub fn in_words(bytes: &[u8]) -> Vec<u16> {
+    bytes.chunks(2).map(|pair| u16::from_le_bytes([pair[0], pair[1]])).collect()
+}
+
+/// Words as the papers print them.
+fn hex_words(words: &[u16]) -> String {
+    words.iter().map(|word| format!("{word:04X}")).collect::<Vec<_>>().join(" ")
 }
 
 /// The canary bytes as the driver sets them.

@@ -3,7 +3,7 @@
 use super::arguments::Subject;
 use super::engine::{self, shared, Cases};
 use super::report::Report;
-use super::{changed_cases, edit_cases, read_cases, torn_cases, write_cases};
+use super::{changed_cases, edit_cases, read_cases, to_text_cases, to_words_cases, torn_cases, write_cases};
 use crate::model::refusal;
 use std::time::{Duration, Instant};
 
@@ -23,12 +23,14 @@ struct Part {
 
 /// All parts, with so many random buffers for each call.
 pub fn compare(program: &[String], seed: u64, count: usize) -> Result<String, String> {
-    let parts: [(Subject, &str, Vec<Cases>); 5] = [
+    let parts: [(Subject, &str, Vec<Cases>); 7] = [
         (Subject::Torn, "torn writes", shared(seed, TORN, torn_cases::all)),
         (Subject::Changed, "changed bytes", changed_cases::shares(seed, PAIRS)),
         (Subject::Read, "random buffers, reading", shared(seed, count, read_cases::random)),
         (Subject::Write, "random buffers, writing", shared(seed, count, write_cases::random)),
         (Subject::Edit, "random buffers, editing", shared(seed, count, edit_cases::random)),
+        (Subject::ToText, "random buffers, words into text", shared(seed, count, to_text_cases::random)),
+        (Subject::ToWords, "random buffers, text into words", shared(seed, count, to_words_cases::random)),
     ];
     let mut done: Vec<Part> = Vec::new();
     for (subject, title, shares) in parts {

@@ -18,6 +18,8 @@ pub const END: u32 = 16;
 pub const ID: u32 = 17;
 pub const CHECKSUM: u32 = 18;
 pub const SECOND: u32 = 19;
+pub const WORD: u32 = 20;
+pub const HIGH: u32 = 21;
 
 /// Damage in the chain, in the order in which each block is tested for it.
 pub const DAMAGE: [u32; 5] = [LENGTH, END, ID, CHECKSUM, SECOND];
@@ -33,8 +35,14 @@ pub const EDITING: [u32; 16] = [
     SIZE, CONTENT, CHECK, LENGTH, END, ID, CHECKSUM, SECOND, FIELD, MISMATCH, LOOSE, ROOM, VALUE, CLASH, LARGE, LOCKED,
 ];
 
+/// Words into text: "20 a word with no meaning, .. then 2".
+pub const TO_TEXT: [u32; 2] = [WORD, ROOM];
+
+/// Text into words: "21 a character above 7F, then 2".
+pub const TO_WORDS: [u32; 2] = [HIGH, ROOM];
+
 /// What reading and editing refuse with: "a refusal for damage gives its number and that place, any other its number
-/// alone". Writing, which walks no chain, refuses with a number.
+/// alone". The other calls, which walk no chain, refuse with a number.
 #[derive(Clone, Copy, Debug, PartialEq, Eq)]
 pub struct Refusal {
     pub number: u32,
@@ -48,11 +56,11 @@ impl From<u32> for Refusal {
     }
 }
 
-/// The table's word for a number; for damage a word of ours.
+/// The table's word for a number; for those of the requests a word of ours.
 pub fn name(number: u32) -> &'static str {
-    const NAMES: [&str; 20] = [
+    const NAMES: [&str; 22] = [
         "accepted", "Size", "Room", "Content", "Check", "retired", "Field", "Mismatch", "Sheet", "Value", "Clash",
-        "Large", "Locked", "Loose", "Offset", "Length", "End", "ID", "Checksum", "Second",
+        "Large", "Locked", "Loose", "Offset", "Length", "End", "ID", "Checksum", "Second", "Word", "High",
     ];
     NAMES.get(number as usize).copied().unwrap_or("unknown")
 }
