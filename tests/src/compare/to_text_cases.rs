@@ -8,7 +8,7 @@ use crate::random::Random;
 
 /// The fixed cases and so many random ones.
 pub fn all(seed: u64, count: usize) -> impl Iterator<Item = Case> + Send {
-    let fixed = published().chain(every_word()).chain(spoiled()).chain(rooms()).chain(long());
+    let fixed = nothing().chain(published()).chain(every_word()).chain(spoiled()).chain(rooms()).chain(long());
     fixed.chain(random(seed, count))
 }
 
@@ -54,6 +54,11 @@ fn read_back(random: &mut Random) -> Case {
         buffers: vec![in_bytes(&words[..used]), [text, behind].concat()],
     };
     Case { group: "words of a text, read back", call, expected }
+}
+
+/// No words, often enough that the buffers are passed in every way.
+fn nothing() -> impl Iterator<Item = Case> + Send {
+    (0..16).map(|time| Case::new("no words", Call::to_text(&[], vec![0xEE; time / 8])))
 }
 
 /// The papers' words in every room up to one more than is needed.

@@ -8,7 +8,8 @@ use crate::random::Random;
 
 /// The fixed cases and so many random ones.
 pub fn all(seed: u64, count: usize) -> impl Iterator<Item = Case> + Send {
-    let fixed = published().chain(every_byte()).chain(short()).chain(rooms()).chain(spoiled()).chain(long());
+    let characters = nothing().chain(published()).chain(every_byte()).chain(short());
+    let fixed = characters.chain(rooms()).chain(spoiled()).chain(long());
     fixed.chain(random(seed, count))
 }
 
@@ -39,6 +40,11 @@ fn words_in(text: &[u8]) -> Option<usize> {
 /// What stands in a buffer of words before it is filled.
 fn unfilled(room: usize) -> Vec<u16> {
     vec![0xEEEE; room]
+}
+
+/// No text, often enough that the buffers are passed in every way.
+fn nothing() -> impl Iterator<Item = Case> + Send {
+    (0..16).map(|time| Case::new("no text", Call::to_words(vec![], &unfilled(time / 8))))
 }
 
 /// The papers' texts in every room up to one more than is needed.
