@@ -202,7 +202,7 @@ fn point_13_fb_fd_fe_and_ff_have_no_meaning() {
             assert_eq!(to_text(&[u16::from_be_bytes([high, low])]), Err(20), "{high:02X}{low:02X}");
         }
     }
-    // 002, D.2.2: 123456789 as an integer of four bytes, and e with an acute accent in UTF-8, each followed by pads.
+    // 002, D.2.2: 123456789 as an integer of four bytes; e with an acute accent in UTF-8, filled up with 00.
     assert_eq!(to_text(&[0xFB00, 0x075B, 0xCD15]), Err(20));
     assert_eq!(to_text(&[0xFDC3, 0xA900]), Err(20));
     let digits = to_words(b"123456789123456789").unwrap();
