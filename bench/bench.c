@@ -21,28 +21,40 @@ typedef uint32_t write_call(const uint8_t *, size_t, uint8_t *, size_t,
 typedef uint32_t edit_call(uint8_t *, size_t, const uint8_t *, size_t,
                            uint32_t, const uint8_t *, size_t,
                            uint8_t *, size_t, size_t *, size_t *, size_t *);
+typedef uint32_t to_text_call(const uint16_t *, size_t, uint8_t *, size_t,
+                              size_t *);
+typedef uint32_t to_words_call(const uint8_t *, size_t, uint16_t *, size_t,
+                               size_t *);
 
 extern read_call plain_read;
 extern write_call plain_write;
 extern edit_call plain_edit;
+extern to_text_call plain_words_to_text;
+extern to_words_call plain_text_to_words;
 
 #ifdef WITH_RUST
 extern read_call rust_read;
 extern write_call rust_write;
 extern edit_call rust_edit;
+extern to_text_call rust_words_to_text;
+extern to_words_call rust_text_to_words;
 #endif
 
 struct library {
     read_call *read;
     write_call *write;
     edit_call *edit;
+    to_text_call *to_text;
+    to_words_call *to_words;
 };
 
 static const struct library libraries[] = {
-    { urp_read, urp_write, urp_edit },
-    { plain_read, plain_write, plain_edit },
+    { urp_read, urp_write, urp_edit, urp_words_to_text, urp_text_to_words },
+    { plain_read, plain_write, plain_edit, plain_words_to_text,
+      plain_text_to_words },
 #ifdef WITH_RUST
-    { rust_read, rust_write, rust_edit },
+    { rust_read, rust_write, rust_edit, rust_words_to_text,
+      rust_text_to_words },
 #endif
 };
 
@@ -52,28 +64,35 @@ enum { LIBRARIES = sizeof libraries / sizeof libraries[0] };
 
 enum { MOST_REPETITIONS = 1001, SLICE_NS = 200000, CALIBRATIONS = 5 };
 
-/* What a tag holds besides its first 34 bytes. */
-enum blocks { NONE, FEW, LONG, MANY, BROKEN };
+/* The blocks that a tag holds behind its first 34 bytes; or the characters of a
+   text, all of the 39 or others among them. */
+enum kind { NONE, FEW, LONG, MANY, BROKEN, CODE40, MIXED };
 
-static const char *const block_names[] = {
-    "none", "few", "long", "many", "broken"
+static const char *const kind_names[] = {
+    "none", "few", "long", "many", "broken", "code40", "mixed"
 };
 
 static const struct row {
-    size_t tag_len;
-    enum blocks blocks;
+    size_t len;
+    enum kind kind;
 } rows[] = {
     { 32, NONE }, { 112, FEW }, { 112, MANY }, { 256, FEW }, { 256, MANY },
-    { 256, BROKEN }, { 2048, FEW }, { 2048, LONG }, { 2048, MANY }
+    { 256, BROKEN }, { 2048, FEW }, { 2048, LONG }, { 2048, MANY },
+    { 24, CODE40 }, { 255, CODE40 }, { 255, MIXED }
 };
 
 enum { ROWS = sizeof rows / sizeof rows[0] };
 
-enum call { READ, WRITE, EDIT, CALLS };
+enum call { READ, WRITE, EDIT, TO_TEXT, TO_WORDS, CALLS };
 
-static const char *const call_names[CALLS] = { "read", "write", "edit" };
+static const char *const call_names[CALLS] = {
+    "read", "write", "edit", "to_text", "to_words"
+};
 
-enum { BROKEN_BYTES = 6 };  /* the length of the broken block, the last */
+enum {
+    BROKEN_BYTES = 6,  /* the length of the broken block, the last */
+    TEXT_MAX = 255     /* of the longest text */
+};
 
 struct sheet {
     uint8_t bytes[URP_SHEET_MAX];
@@ -91,6 +110,10 @@ struct inputs {
     uint32_t number;
     uint8_t values[2][URP_OLD_MAX];
     size_t value_lens[2];
+    uint8_t texts[2][TEXT_MAX];
+    size_t text_len;
+    uint16_t words[2][TEXT_MAX];
+    size_t words_lens[2];
 };
 
 /* What the calls of a row work on and leave. */
@@ -98,6 +121,8 @@ struct outputs {
     uint8_t tag[URP_TAG_MAX];
     uint8_t sheet[URP_SHEET_MAX];
     uint8_t old[URP_OLD_MAX];
+    uint8_t text[3 * TEXT_MAX];
+    uint16_t words[TEXT_MAX];
     size_t len;
     size_t pages;
     size_t place;
@@ -113,9 +138,9 @@ static void stop(const char *message)
 static void stop_at(const struct row *row, enum call call, int library,
                     const char *message)
 {
-    fprintf(stderr, "bench: %s, %lu bytes, blocks %s: %c %s\n",
-            call_names[call], (unsigned long)row->tag_len,
-            block_names[row->blocks], 'A' + library, message);
+    fprintf(stderr, "bench: %s, %lu bytes, %s: %c %s\n",
+            call_names[call], (unsigned long)row->len,
+            kind_names[row->kind], 'A' + library, message);
     exit(1);
 }
 
@@ -197,23 +222,23 @@ static void make_row_sheet(const struct row *row, int which, struct inputs *in)
 {
     static struct entry entries[1 + 7 + URP_TAG_MAX / 3];
     static uint8_t store[URP_OLD_MAX];
-    size_t room = row->tag_len > 34 ? row->tag_len - 34 : 0, n = 0;
+    size_t room = row->len > 34 ? row->len - 34 : 0, n = 0;
 
     n = add(entries, n, 1, which == 0 ? "1000000056" : "2000000136", 10);
     n = add(entries, n, 3, "DK-718500", 9);
     n = add(entries, n, 4, "\001\000\001\000", 4);
-    n = add(entries, n, 5, row->blocks == FEW ? "\021" : "\020", 1);
-    if (row->blocks == FEW) {
+    n = add(entries, n, 5, row->kind == FEW ? "\021" : "\020", 1);
+    if (row->kind == FEW) {
         n = add(entries, n, 19, "\001", 1);
         n = add(entries, n, 22, "978-3-16-148", 12);
         n = add_blocks(entries, n, store, 34, 2,
-                       row->tag_len > 112 ? 3 * 34 : 34);
+                       row->len > 112 ? 3 * 34 : 34);
     }
-    if (row->blocks == LONG)
+    if (row->kind == LONG)
         n = add_blocks(entries, n, store, 251, 3, room);
-    if (row->blocks == MANY)
+    if (row->kind == MANY)
         n = add_blocks(entries, n, store, 3, 300, room);
-    if (row->blocks == BROKEN) {
+    if (row->kind == BROKEN) {
         n = add_blocks(entries, n, store, 3, 300, room - BROKEN_BYTES);
         n = add_blocks(entries, n, store + 3, BROKEN_BYTES, 2, BROKEN_BYTES);
     }
@@ -229,36 +254,86 @@ static void set_value(struct inputs *in, int which, const char *text)
 /* Edits change the length of block 1 of a FEW tag and so move its other blocks;
    of the others they change the first 34 bytes. The broken block ends a BROKEN
    tag, and its checksum is made to differ. */
-static void make_inputs(const struct row *row, const struct library *by,
-                        struct inputs *in)
+static void make_tags(const struct row *row, const struct library *by,
+                      struct inputs *in)
 {
     int which;
     size_t pages;
 
-    memset(in, 0, sizeof *in);
-    in->answer = row->blocks == BROKEN ? URP_BLOCK_CHECKSUM : URP_DONE;
-    in->tag_len = row->tag_len;
-    in->number = row->blocks == FEW ? 22 : 1;
-    set_value(in, 0, row->blocks == FEW ? "978-3-16" : "3000000099");
-    set_value(in, 1, row->blocks == FEW ? "978-3-16-148" : "1000000056");
+    in->tag_len = row->len;
+    in->number = row->kind == FEW ? 22 : 1;
+    set_value(in, 0, row->kind == FEW ? "978-3-16" : "3000000099");
+    set_value(in, 1, row->kind == FEW ? "978-3-16-148" : "1000000056");
     for (which = 0; which < 2; which++) {
         make_row_sheet(row, which, in);
         if (by->write(in->sheets[which].bytes, in->sheets[which].len,
                       in->tags[which], in->tag_len, in->locks,
                       in->tag_len / URP_PAGE, &pages) != URP_DONE)
             stop("a row's sheet is refused");
-        if (row->blocks == BROKEN)
+        if (row->kind == BROKEN)
             in->tags[which][in->tag_len - 1] ^= 1;
     }
 }
 
+/* A text is one of these over and over. The first 24 characters of a CODE40 one
+   are an owner, an identifier and a set; its length is no multiple of 3, so
+   that the words do not soon repeat. In a MIXED one a quarter to a half of the
+   characters are outside the 39, with no, one or two pads before them. */
+static void make_texts(const struct row *row, const struct library *by,
+                       struct inputs *in)
+{
+    static const char *const code40[2] = {
+        "CH-000134-1.123456789.31:", "DK-718500-2.100000056.21:"
+    };
+    static const char *const mixed[2] = {
+        "DK-718500/12.Kbh/a-3.41 b", "US-InU-Mu/2.Vol/b-7;new"
+    };
+    int which;
+    size_t i;
+
+    in->text_len = row->len;
+    for (which = 0; which < 2; which++) {
+        const char *again = row->kind == MIXED ? mixed[which] : code40[which];
+        size_t len = strlen(again);
+
+        for (i = 0; i < row->len; i++)
+            in->texts[which][i] = (uint8_t)again[i % len];
+        if (by->to_words(in->texts[which], row->len, in->words[which],
+                         TEXT_MAX, &in->words_lens[which]) != URP_DONE)
+            stop("a row's text is refused");
+    }
+}
+
+static int is_text_row(const struct row *row)
+{
+    return row->kind == CODE40 || row->kind == MIXED;
+}
+
+static void make_inputs(const struct row *row, const struct library *by,
+                        struct inputs *in)
+{
+    memset(in, 0, sizeof *in);
+    in->answer = row->kind == BROKEN ? URP_BLOCK_CHECKSUM : URP_DONE;
+    if (is_text_row(row))
+        make_texts(row, by, in);
+    else
+        make_tags(row, by, in);
+}
+
 /* ---- calls ---- */
 
-/* How many of the calls are made of a row, from the first on: a broken tag is
-   only read. */
-static int calls_of(const struct row *row)
+/* The calls that are made of a row, from the first to before the end: a broken
+   tag is only read. */
+static int first_call(const struct row *row)
 {
-    return row->blocks == BROKEN ? READ + 1 : CALLS;
+    return is_text_row(row) ? TO_TEXT : READ;
+}
+
+static int end_of_calls(const struct row *row)
+{
+    if (is_text_row(row))
+        return TO_WORDS + 1;
+    return row->kind == BROKEN ? READ + 1 : EDIT + 1;
 }
 
 static void begin(struct outputs *out, const struct inputs *in)
@@ -267,34 +342,59 @@ static void begin(struct outputs *out, const struct inputs *in)
     memcpy(out->tag, in->tags[0], in->tag_len);
 }
 
+/* Makes a call with the inputs number k, 0 or 1. */
+static uint32_t make_call(const struct library *lib, enum call call,
+                          const struct inputs *in, struct outputs *out,
+                          size_t k)
+{
+    size_t locks_len = in->tag_len / URP_PAGE;
+
+    switch (call) {
+    case READ:
+        return lib->read(in->tags[k], in->tag_len, out->sheet,
+                         sizeof out->sheet, &out->len, &out->place);
+    case WRITE:  /* the tag holds sheet 0: begin with 1 */
+        return lib->write(in->sheets[1 - k].bytes, in->sheets[1 - k].len,
+                          out->tag, in->tag_len, in->locks, locks_len,
+                          &out->pages);
+    case EDIT:
+        return lib->edit(out->tag, in->tag_len, in->locks, locks_len,
+                         in->number, in->values[k], in->value_lens[k],
+                         out->old, sizeof out->old, &out->pages,
+                         &out->len, &out->place);
+    case TO_TEXT:
+        return lib->to_text(in->words[k], in->words_lens[k], out->text,
+                            sizeof out->text, &out->len);
+    default:
+        return lib->to_words(in->texts[k], in->text_len, out->words,
+                             TEXT_MAX, &out->len);
+    }
+}
+
 /* Makes a call `turns` times, the inputs in turn from the first on. */
 static void make_calls(const struct library *lib, enum call call,
                        const struct inputs *in, struct outputs *out,
                        size_t turns)
 {
-    size_t i, locks_len = in->tag_len / URP_PAGE;
+    size_t i;
 
-    for (i = 0; i < turns; i++) {
-        size_t k = i % 2;
-        uint32_t answer;
-
-        if (call == READ)
-            answer = lib->read(in->tags[k], in->tag_len, out->sheet,
-                               sizeof out->sheet, &out->len, &out->place);
-        else if (call == WRITE)  /* the tag holds sheet 0: begin with 1 */
-            answer = lib->write(in->sheets[1 - k].bytes,
-                                in->sheets[1 - k].len, out->tag, in->tag_len,
-                                in->locks, locks_len, &out->pages);
-        else
-            answer = lib->edit(out->tag, in->tag_len, in->locks, locks_len,
-                               in->number, in->values[k], in->value_lens[k],
-                               out->old, sizeof out->old, &out->pages,
-                               &out->len, &out->place);
-        out->wrong |= answer ^ in->answer;
-    }
+    for (i = 0; i < turns; i++)
+        out->wrong |= make_call(lib, call, in, out, i % 2) ^ in->answer;
 }
 
-/* All libraries must do the same, and change something where they should. */
+/* Whether a call that was made `turns` times has done nothing: a write or edit
+   has changed no page, words have not become the text that they are made of. */
+static int is_idle(enum call call, const struct inputs *in,
+                   const struct outputs *out, size_t turns)
+{
+    if (call == WRITE || call == EDIT)
+        return out->pages == 0;
+    if (call == TO_TEXT)
+        return memcmp(out->text, in->texts[turns - 1], in->text_len) != 0;
+    return call == TO_WORDS && out->len == 0;
+}
+
+/* All libraries must do the same, and do something where they should. */
 static void compare(const struct row *row, enum call call,
                     const struct inputs *in)
 {
@@ -308,8 +408,8 @@ static void compare(const struct row *row, enum call call,
             make_calls(&libraries[i], call, in, &out[i], turns);
             if (out[i].wrong != 0)
                 stop_at(row, call, i, "gives a wrong answer");
-            if (call != READ && out[i].pages == 0)
-                stop_at(row, call, i, "changes nothing");
+            if (is_idle(call, in, &out[i], turns))
+                stop_at(row, call, i, "does nothing");
             if (memcmp(&out[i], &out[A], sizeof out[i]) != 0)
                 stop_at(row, call, i, "leaves other bytes than A");
         }
@@ -352,8 +452,8 @@ static double median(double *times, size_t count)
 
 static void print_name(const struct row *row, enum call call)
 {
-    printf("%5lu  %-6s  %-5s", (unsigned long)row->tag_len,
-           block_names[row->blocks], call_names[call]);
+    printf("%5lu  %-6s  %-8s", (unsigned long)row->len,
+           kind_names[row->kind], call_names[call]);
 }
 
 /* The even count of calls that takes about as long for every library, so that
@@ -423,7 +523,8 @@ static void time_all(size_t repetitions)
 
     for (r = 0; r < ROWS; r++) {
         make_inputs(&rows[r], &libraries[B], &in);
-        for (call = READ; call < calls_of(&rows[r]); call++) {
+        for (call = first_call(&rows[r]); call < end_of_calls(&rows[r]);
+             call++) {
             compare(&rows[r], (enum call)call, &in);
             time_call(&rows[r], (enum call)call, &in, repetitions);
         }
@@ -436,7 +537,8 @@ static void print_names(void)
     int call;
 
     for (r = 0; r < ROWS; r++) {
-        for (call = READ; call < calls_of(&rows[r]); call++) {
+        for (call = first_call(&rows[r]); call < end_of_calls(&rows[r]);
+             call++) {
             print_name(&rows[r], (enum call)call);
             printf("\n");
         }
@@ -453,7 +555,8 @@ static void call_all(int which)
 
     for (r = 0; r < ROWS; r++) {
         make_inputs(&rows[r], &libraries[which == A ? B : A], &in);
-        for (call = READ; call < calls_of(&rows[r]); call++) {
+        for (call = first_call(&rows[r]); call < end_of_calls(&rows[r]);
+             call++) {
             begin(&out, &in);
             make_calls(&libraries[which], (enum call)call, &in, &out, 2);
             if (out.wrong != 0)

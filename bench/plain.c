@@ -912,46 +912,54 @@ static const uint8_t character_values[CHARACTER_MAX + 1] = {
     0, 0, 0, 0, 0, 0, 0, 0, 0, 0, 0, 0, 0, 0, 0, 0
 };
 
-/* The second and the third value of a word of three. */
-static unsigned second_value(uint16_t word)
-{
-    return (word - 1u) / 40 % 40;
-}
+/* The three values of a word of three. */
+struct three {
+    unsigned first;
+    unsigned second;
+    unsigned third;
+};
 
-static unsigned third_value(uint16_t word)
+static struct three three_of(uint16_t word)
 {
-    return (word - 1u) % 40;
+    unsigned sum = word - 1u, before = sum / 40;
+    struct three values;
+
+    values.first = before / 40;
+    values.second = before % 40;
+    values.third = sum % 40;
+    return values;
 }
 
 /* The count of characters that a word holds, 0 where it has no meaning. */
 static size_t characters_in(uint16_t word)
 {
-    if (word >= WORD_OF_THREE_MIN && word <= WORD_OF_THREE_MAX) {
-        if (third_value(word) != PAD)
-            return second_value(word) != PAD ? 3 : 0;
-        return second_value(word) != PAD ? 2 : 1;
-    }
-    return word >= ONE_CHARACTER && word <= ONE_CHARACTER + CHARACTER_MAX;
+    struct three values;
+
+    if (word < WORD_OF_THREE_MIN || word > WORD_OF_THREE_MAX)
+        return word >= ONE_CHARACTER && word <= ONE_CHARACTER + CHARACTER_MAX;
+    values = three_of(word);
+    if (values.second == PAD)
+        return values.third == PAD ? 1 : 0;
+    return values.third == PAD ? 2 : 3;
 }
 
 /* Puts the characters of a word that has a meaning, and gives their count. */
 static size_t put_characters(uint8_t *text, uint16_t word)
 {
-    unsigned second, third;
+    struct three values;
 
     if (word >= ONE_CHARACTER) {
         text[0] = (uint8_t)(word & 0xFF);
         return 1;
     }
-    second = second_value(word);
-    third = third_value(word);
-    text[0] = (uint8_t)value_characters[(word - 1u) / 1600];
-    if (second == PAD)
+    values = three_of(word);
+    text[0] = (uint8_t)value_characters[values.first];
+    if (values.second == PAD)
         return 1;
-    text[1] = (uint8_t)value_characters[second];
-    if (third == PAD)
+    text[1] = (uint8_t)value_characters[values.second];
+    if (values.third == PAD)
         return 2;
-    text[2] = (uint8_t)value_characters[third];
+    text[2] = (uint8_t)value_characters[values.third];
     return 3;
 }
 
@@ -977,27 +985,29 @@ uint32_t urp_words_to_text(const uint16_t *words, size_t words_len,
     return URP_DONE;
 }
 
+/* The count of words that a run of the 39 takes. */
+static size_t words_of_run(size_t run)
+{
+    return (run + 2) / 3;
+}
+
 /* Counts the words of a text: 21. */
 static uint32_t count_words(const uint8_t *text, size_t text_len,
                             size_t *count)
 {
-    size_t n = 0, i;
-    int left = 0;  /* places that the word begun last has left */
+    size_t n = 0, run = 0, i;
 
     for (i = 0; i < text_len; i++) {
         if (text[i] > CHARACTER_MAX)
             return URP_CHARACTER;
-        if (character_values[text[i]] == PAD) {
-            n++;
-            left = 0;
-        } else if (left == 0) {
-            n++;
-            left = 2;
+        if (character_values[text[i]] != PAD) {
+            run++;
         } else {
-            left--;
+            n += words_of_run(run) + 1;
+            run = 0;
         }
     }
-    *count = n;
+    *count = n + words_of_run(run);
     return URP_DONE;
 }
 
@@ -1019,11 +1029,15 @@ static void put_words(uint16_t *words, const uint8_t *text, size_t text_len)
             *words++ = (uint16_t)(ONE_CHARACTER + text[at++]);
             continue;
         }
-        second = value_at(text, text_len, at + 1);
-        if (second != PAD)
-            third = value_at(text, text_len, at + 2);
+        at++;
+        second = value_at(text, text_len, at);
+        if (second != PAD) {
+            at++;
+            third = value_at(text, text_len, at);
+            if (third != PAD)
+                at++;
+        }
         *words++ = (uint16_t)(1600 * first + 40 * second + third + 1);
-        at += 1 + (second != PAD) + (third != PAD);
     }
 }
 

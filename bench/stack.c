@@ -1,6 +1,6 @@
 /* stack.c: stands between a program and a library with the calls of urpanella.h
    and measures the stack that each call takes. The program is compiled with
-   urp_read as stack_read, and so on for the other two.
+   urp_read as stack_read, and so on for the others.
    The stack below is painted before a call; afterwards the lowest byte without
    paint is looked for. At the end of the program a line for each call goes to
    standard error: the bytes of the deepest call that was done, and of the
@@ -21,9 +21,11 @@ enum {
     STEP = 64        /* bytes that are looked at together; divides the others */
 };
 
-enum call { READ, WRITE, EDIT, CALLS };
+enum call { READ, WRITE, EDIT, TO_TEXT, TO_WORDS, CALLS };
 
-static const char *const call_names[CALLS] = { "read", "write", "edit" };
+static const char *const call_names[CALLS] = {
+    "read", "write", "edit", "to_text", "to_words"
+};
 
 static size_t deepest[CALLS][2];  /* done, refused */
 
@@ -113,4 +115,28 @@ uint32_t stack_edit(uint8_t *tag, size_t tag_len,
     return noted(EDIT, top, urp_edit(tag, tag_len, locks, locks_len, number,
                                      value, value_len, old, old_len, pages,
                                      old_used, place));
+}
+
+uint32_t stack_words_to_text(const uint16_t *words, size_t words_len,
+                             uint8_t *text, size_t text_len,
+                             size_t *used)
+{
+    uint8_t *top;
+
+    GET_STACK_POINTER(top);
+    paint(top);
+    return noted(TO_TEXT, top, urp_words_to_text(words, words_len, text,
+                                                 text_len, used));
+}
+
+uint32_t stack_text_to_words(const uint8_t *text, size_t text_len,
+                             uint16_t *words, size_t words_len,
+                             size_t *used)
+{
+    uint8_t *top;
+
+    GET_STACK_POINTER(top);
+    paint(top);
+    return noted(TO_WORDS, top, urp_text_to_words(text, text_len, words,
+                                                  words_len, used));
 }

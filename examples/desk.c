@@ -1,5 +1,6 @@
 /* desk.c: a small host for the desk, in C89. It keeps tags in files, one file
-   for each tag, and calls the library to list, write, edit and undo them.
+   for each tag, and calls the library to list, write, edit and undo them. Of a
+   UHF tag's identifier it makes the words, and reads them.
    Ends with 0 when the work is done, 1 when the library refused it, and 2 at
    bad usage or a file that cannot be used. */
 #include "urpanella.h"
@@ -19,6 +20,9 @@ struct tag {
     uint8_t locks[URP_LOCKS_MAX + 1];
     size_t locks_len;
 };
+
+/* Room for this many words of a UHF tag, or characters, at once. */
+enum { WORDS_MAX = 512 };
 
 /* An element in sheet form; len 0 is none. */
 struct element {
@@ -96,6 +100,31 @@ static void show_changed(const uint8_t *before, const uint8_t *tag, size_t len)
                    (unsigned long)(at / URP_PAGE), (unsigned)tag[at],
                    (unsigned)tag[at + 1], (unsigned)tag[at + 2],
                    (unsigned)tag[at + 3]);
+}
+
+static void show_words(const uint16_t *words, size_t len)
+{
+    size_t i;
+
+    for (i = 0; i < len; i++)
+        printf("%s%04X", i == 0 ? "" : " ", (unsigned)words[i]);
+    printf("\n");
+}
+
+/* Shows a text as it is, except what a terminal would obey and not show: a
+   control character is a backslash and two hex digits. So that this is not
+   taken for characters of the text, a backslash is \5C. */
+static void show_text(const uint8_t *text, size_t len)
+{
+    size_t i;
+
+    for (i = 0; i < len; i++) {
+        if (text[i] >= 0x20 && text[i] <= 0x7E && text[i] != '\\')
+            printf("%c", text[i]);
+        else
+            printf("\\%02X", (unsigned)text[i]);
+    }
+    printf("\n");
 }
 
 /* ---- files ---- */
@@ -188,7 +217,7 @@ static int load_tag(const char *tag_path, const char *locks_path,
     return DONE;
 }
 
-/* ---- elements in words ---- */
+/* ---- what is typed ---- */
 
 static int digit(char c)
 {
@@ -218,6 +247,23 @@ static int take_hex(const char *hex, struct element *e)
         e->bytes[i / 2] = (uint8_t)(16 * high + low);
     }
     e->len = digits / 2;
+    return 1;
+}
+
+/* Takes four hex digits; false if it is anything else. */
+static int take_word(const char *hex, uint16_t *word)
+{
+    unsigned number = 0;
+    size_t i;
+
+    if (strlen(hex) != 4)
+        return 0;
+    for (i = 0; i < 4; i++) {
+        if (digit(hex[i]) < 0)
+            return 0;
+        number = 16 * number + (unsigned)digit(hex[i]);
+    }
+    *word = (uint16_t)number;
     return 1;
 }
 
@@ -367,6 +413,43 @@ static int undo(const char *tag_path, const char *locks_path)
     return set_element(tag_path, locks_path, &e);
 }
 
+static int make_words(const char *text)
+{
+    uint16_t words[WORDS_MAX];
+    size_t used;
+    uint32_t answer;
+
+    if (strlen(text) > WORDS_MAX)
+        return trouble("text", "more than 512 characters");
+    answer = urp_text_to_words((const uint8_t *)text, strlen(text),
+                               words, WORDS_MAX, &used);
+    if (answer != URP_DONE)
+        return refused(answer);
+    show_words(words, used);
+    return DONE;
+}
+
+/* Reads words given as four hex digits each. */
+static int read_words(int count, char **hex)
+{
+    uint16_t words[WORDS_MAX];
+    uint8_t text[3 * WORDS_MAX];
+    size_t used;
+    uint32_t answer;
+    int i;
+
+    if (count > WORDS_MAX)
+        return trouble("words", "more than 512");
+    for (i = 0; i < count; i++)
+        if (!take_word(hex[i], &words[i]))
+            return trouble(hex[i], "not a word of four hex digits");
+    answer = urp_words_to_text(words, (size_t)count, text, sizeof text, &used);
+    if (answer != URP_DONE)
+        return refused(answer);
+    show_text(text, used);
+    return DONE;
+}
+
 /* ---- the demonstration ---- */
 
 static const uint8_t whole_sheet[] = {
@@ -429,12 +512,37 @@ static int demo_edits(struct tag *tag, const struct tag *start)
     return DONE;
 }
 
+/* The words of an identifier, and the identifier back. */
+static int demo_words(void)
+{
+    static const char text[] = "CH-000134-1.12345678.31";
+    uint16_t words[sizeof text - 1];
+    uint8_t back[3 * (sizeof text - 1)];
+    size_t count, used;
+    uint32_t answer = urp_text_to_words((const uint8_t *)text, strlen(text),
+                                        words, strlen(text), &count);
+
+    if (answer != URP_DONE)
+        return refused(answer);
+    printf("words  %s on a UHF tag: ", text);
+    show_words(words, count);
+    answer = urp_words_to_text(words, count, back, 3 * count, &used);
+    if (answer != URP_DONE)
+        return refused(answer);
+    if (used != strlen(text) || memcmp(back, text, used) != 0)
+        return trouble("demo", "another text was read than written");
+    printf("text   of these words: ");
+    show_text(back, used);
+    return DONE;
+}
+
 static int demo(void)
 {
     struct tag tag, start;
     uint8_t sheet[URP_SHEET_MAX];
     size_t pages, used, place;
     uint32_t answer;
+    int status;
 
     memset(&tag, 0, sizeof tag);
     tag.len = 36;
@@ -457,13 +565,15 @@ static int demo(void)
            (unsigned long)used);
     show_sheet(sheet);
     start = tag;
-    return demo_edits(&tag, &start);
+    status = demo_edits(&tag, &start);
+    return status == DONE ? demo_words() : status;
 }
 
 static int usage(void)
 {
     fputs("usage: desk list TAG | write TAG LOCKS SHEET"
-          " | edit TAG LOCKS NUMBER HEX | undo TAG LOCKS | demo"
+          " | edit TAG LOCKS NUMBER HEX | undo TAG LOCKS"
+          " | words TEXT | text WORD.. | demo"
           "  (LOCKS - for all open, HEX - to remove)\n", stderr);
     return TROUBLE;
 }
@@ -478,6 +588,10 @@ static int run(int words, char **word)
         return edit(word[1], word[2], word[3], word[4]);
     if (words == 3 && strcmp(word[0], "undo") == 0)
         return undo(word[1], word[2]);
+    if (words == 2 && strcmp(word[0], "words") == 0)
+        return make_words(word[1]);
+    if (words >= 2 && strcmp(word[0], "text") == 0)
+        return read_words(words - 1, word + 1);
     if (words == 1 && strcmp(word[0], "demo") == 0)
         return demo();
     return usage();

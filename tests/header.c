@@ -2,8 +2,10 @@
    made by its words are carried, others are not; the pages that differ from a
    copy are as many as the call says; a half-sent tag is mended by writing again;
    the place is that of the first damaged block, and is given with no other
-   answer.
-   Prints what is wrong, and ends with 1; or one line, and 0. */
+   answer; words and text are as its table, sums and rules say, and fit into the
+   room that it says suffices.
+   Prints what is wrong, or the first of it, and ends with 1; or one line, and
+   0. */
 #include "urpanella.h"
 
 #include <stdio.h>
@@ -18,12 +20,15 @@ static const uint8_t two[] = { 0x05, 0x02, 0x00, 0x46, 0x41 };
 
 static int wrong;
 
+enum { SHOWN = 20 };  /* of what is wrong; a loop could find thousands */
+
 static void expect(int holds, const char *what)
 {
     if (holds)
         return;
-    printf("header: %s\n", what);
     wrong++;
+    if (wrong <= SHOWN)
+        printf("header: %s\n", what);
 }
 
 /* A block of this ID and these bytes, by the words of the header. */
@@ -338,13 +343,215 @@ static void places(void)
                "URP_HAS_PLACE is wrong of an answer");
 }
 
+/* ---- UHF words ---- */
+
+/* The longest text that is tried; some items more than any output has, and what
+   they hold before a call. */
+enum { TEXT_MAX = 24, SPARE = 4, PRESET_BYTE = 0xA5 };
+
+static const char header_text[] = "CH-000134-1.12345678.31";
+static const uint16_t header_words[] = {
+    0x141C, 0xC04F, 0xC70B, 0xADB5, 0xC6E2, 0xDA1D, 0xED4D, 0xD319
+};
+static const char mixed_text[] = "DK-1/2.a";
+static const uint16_t mixed_words[] = {
+    0x1AD4, 0xC1C1, 0xFC2F, 0xCC61, 0xFC61
+};
+
+/* Whether the items of a buffer from this byte on are as they were. */
+static int is_untouched(const void *buffer, size_t from, size_t end)
+{
+    const uint8_t *bytes = (const uint8_t *)buffer;
+
+    for (; from < end; from++)
+        if (bytes[from] != PRESET_BYTE)
+            return 0;
+    return 1;
+}
+
+/* Reads words with this much room. The answer is the right one; text and length
+   are those given when it is done, and nothing has changed when it is not. */
+static void try_text(const uint16_t *words, size_t count, size_t room,
+                     uint32_t right, const void *text, size_t len)
+{
+    uint8_t out[3 * TEXT_MAX + SPARE];
+    size_t used = PRESET, filled = right == URP_DONE ? len : 0;
+
+    memset(out, PRESET_BYTE, sizeof out);
+    expect(urp_words_to_text(words, count, room == 0 ? NULL : out, room, &used)
+               == right, "words get another answer");
+    expect(used == (right == URP_DONE ? len : (size_t)PRESET)
+               && memcmp(out, text, filled) == 0,
+           "words are another text, or a refusal gives a length");
+    expect(is_untouched(out, filled, sizeof out),
+           "reading words changes bytes that are not the text");
+}
+
+/* Makes words in the same way. */
+static void try_words(const void *text, size_t len, size_t room,
+                      uint32_t right, const uint16_t *words, size_t count)
+{
+    uint16_t out[TEXT_MAX + SPARE];
+    size_t used = PRESET, filled = right == URP_DONE ? count : 0;
+
+    memset(out, PRESET_BYTE, sizeof out);
+    expect(urp_text_to_words((const uint8_t *)text, len,
+                             room == 0 ? NULL : out, room, &used) == right,
+           "a text gets another answer");
+    expect(used == (right == URP_DONE ? count : (size_t)PRESET)
+               && memcmp(out, words, filled * sizeof *words) == 0,
+           "a text has other words, or a refusal gives a count");
+    expect(is_untouched(out, filled * sizeof *words, sizeof out),
+           "making words changes others than its own");
+}
+
+/* A text and its words, both ways: with the room that always suffices, with
+   exact room, and with one item less. */
+static void try_pair(const char *text, const uint16_t *words, size_t count)
+{
+    size_t len = strlen(text);
+
+    try_words(text, len, len, URP_DONE, words, count);
+    try_words(text, len, count, URP_DONE, words, count);
+    try_words(text, len, count - 1, URP_ROOM, words, count);
+    try_text(words, count, 3 * count, URP_DONE, text, len);
+    try_text(words, count, len, URP_DONE, text, len);
+    try_text(words, count, len - 1, URP_ROOM, text, len);
+}
+
+/* The value of a character by the header's table, 0 where it has none. */
+static unsigned value_of(unsigned character)
+{
+    if (character >= 'A' && character <= 'Z')
+        return 1 + character - 'A';
+    if (character >= '0' && character <= '9')
+        return 30 + character - '0';
+    switch (character) {
+    case '-': return 27;
+    case '.': return 28;
+    case ':': return 29;
+    default: return 0;
+    }
+}
+
+/* The characters with these values, up to the first pad; gives their count. */
+static size_t characters_of(unsigned a, unsigned b, unsigned c, uint8_t *text)
+{
+    unsigned values[3], character;
+    size_t len = 0;
+
+    values[0] = a;
+    values[1] = b;
+    values[2] = c;
+    while (len < 3 && values[len] != 0) {
+        for (character = 0; value_of(character) != values[len]; character++)
+            ;
+        text[len++] = (uint8_t)character;
+    }
+    return len;
+}
+
+/* Every word of three values: with pads at the right alone it is what the sum
+   says, both ways; with others it has no meaning. */
+static void words_of_three(void)
+{
+    unsigned a, b, c;
+    uint8_t text[3];
+
+    for (a = 0; a < 40; a++)
+        for (b = 0; b < 40; b++)
+            for (c = 0; c < 40; c++) {
+                uint16_t word = (uint16_t)(1600 * a + 40 * b + c + 1);
+                size_t len = characters_of(a, b, c, text);
+
+                if (a == 0 || (b == 0 && c != 0)) {
+                    try_text(&word, 1, 3, URP_WORD, text, 0);
+                } else {
+                    try_text(&word, 1, 3, URP_DONE, text, len);
+                    try_words(text, len, 1, URP_DONE, &word, 1);
+                }
+            }
+}
+
+/* 0 and the words above FA00: FC00 to FC7F are a character each, which is
+   written so where it is none of the 39; no other has a meaning. */
+static void other_words(void)
+{
+    unsigned long number;
+    uint16_t word = 0;
+    uint8_t character = 0;
+
+    try_text(&word, 1, 3, URP_WORD, &character, 0);
+    for (number = 0xFA01; number <= 0xFFFF; number++) {
+        word = (uint16_t)number;
+        character = (uint8_t)(number & 0xFF);
+        if (number < 0xFC00 || number > 0xFC7F) {
+            try_text(&word, 1, 3, URP_WORD, &character, 0);
+        } else {
+            try_text(&word, 1, 1, URP_DONE, &character, 1);
+            if (value_of(character) == 0)
+                try_words(&character, 1, 1, URP_DONE, &word, 1);
+        }
+    }
+}
+
+/* A word with no meaning, or a character above 7F, is found wherever it stands
+   and before the room is looked at. Nothing needs no room, and null will do. */
+static void words_refused(void)
+{
+    uint16_t words[8];
+    uint8_t text[TEXT_MAX];
+    size_t i, len = strlen(header_text);
+
+    for (i = 0; i < 8; i++) {
+        memcpy(words, header_words, sizeof words);
+        words[i] = 1;
+        try_text(words, 8, 3 * 8, URP_WORD, text, 0);
+        try_text(words, 8, 0, URP_WORD, text, 0);
+    }
+    for (i = 0; i < len; i++) {
+        memcpy(text, header_text, len);
+        text[i] = (uint8_t)(i % 2 == 0 ? 0x80 : 0xFF);
+        try_words(text, len, len, URP_CHARACTER, words, 0);
+        try_words(text, len, 0, URP_CHARACTER, words, 0);
+    }
+    try_text(NULL, 0, 0, URP_DONE, text, 0);
+    try_text(NULL, 0, 1, URP_DONE, text, 0);
+    try_words(NULL, 0, 0, URP_DONE, words, 0);
+    try_words(NULL, 0, 1, URP_DONE, words, 0);
+    try_text(header_words, 8, 0, URP_ROOM, text, 0);
+    try_words(header_text, len, 0, URP_ROOM, words, 0);
+}
+
+/* Of the pairs, two need all the room that the header says always suffices. */
+static void uhf_words(void)
+{
+    static const uint16_t threes[] = { 0x141C, 0x1AD4 };
+    static const uint16_t ones[] = { 0xFC61, 0xFC2F, 0xFC62 };
+    static const uint16_t padded[] = { 0x0641, 0xFC41, 0x0641 };
+    static const uint16_t fewer[] = { 0x066A };
+
+    expect(header_words[0] == 5148, "141C is another number");
+    try_pair(header_text, header_words, 8);
+    try_pair(mixed_text, mixed_words, 5);
+    try_pair("CH-DK-", threes, 2);
+    try_pair("a/b", ones, 3);
+    /* other words than are written read as the same text */
+    try_text(padded, 3, 3, URP_DONE, "AAA", 3);
+    try_words("AAA", 3, 1, URP_DONE, fewer, 1);
+    words_of_three();
+    other_words();
+    words_refused();
+}
+
 int main(void)
 {
     blocks();
     sending();
     places();
+    uhf_words();
     if (wrong > 0)
         return 1;
-    puts("blocks, pages and places are as the header says");
+    puts("blocks, pages, places and words are as the header says");
     return 0;
 }

@@ -1,7 +1,7 @@
 //! The calls of `urpanella.h` by the independent program, for `bench.c`, which passes no null pointer.
 
 use independent::model::refusal::Refusal;
-use independent::model::{editing, reading, writing, Edited};
+use independent::model::{editing, reading, text_to_words, words_to_text, writing, Edited};
 use std::slice::{from_raw_parts, from_raw_parts_mut};
 
 /// # Safety
@@ -60,6 +60,34 @@ pub unsafe extern "C" fn rust_edit(
         *old_used = edited.old_length;
     };
     answer(editing(tag, locks, number, value, old), store, |at| *place = at)
+}
+
+/// # Safety
+/// As `urpanella.h` asks of `urp_words_to_text`.
+#[no_mangle]
+pub unsafe extern "C" fn rust_words_to_text(
+    words: *const u16,
+    words_len: usize,
+    text: *mut u8,
+    text_len: usize,
+    used: *mut usize,
+) -> u32 {
+    let outcome = words_to_text(from_raw_parts(words, words_len), from_raw_parts_mut(text, text_len));
+    answer(outcome.map_err(Refusal::from), |length| *used = length, |_| ())
+}
+
+/// # Safety
+/// As `urpanella.h` asks of `urp_text_to_words`.
+#[no_mangle]
+pub unsafe extern "C" fn rust_text_to_words(
+    text: *const u8,
+    text_len: usize,
+    words: *mut u16,
+    words_len: usize,
+    used: *mut usize,
+) -> u32 {
+    let outcome = text_to_words(from_raw_parts(text, text_len), from_raw_parts_mut(words, words_len));
+    answer(outcome.map_err(Refusal::from), |count| *used = count, |_| ())
 }
 
 /// The number for C. The results are stored only where the work is done, and the place only where the refusal has one.
