@@ -342,33 +342,42 @@ static void begin(struct outputs *out, const struct inputs *in)
     memcpy(out->tag, in->tags[0], in->tag_len);
 }
 
-/* Makes a call with the inputs number k, 0 or 1. */
-static uint32_t make_call(const struct library *lib, enum call call,
-                          const struct inputs *in, struct outputs *out,
-                          size_t k)
+/* Makes a call with the inputs number k, 0 or 1. It is no tail call: a counter
+   of instructions sees its end where this function goes on. */
+static void make_call(const struct library *lib, enum call call,
+                      const struct inputs *in, struct outputs *out, size_t k)
 {
     size_t locks_len = in->tag_len / URP_PAGE;
+    uint32_t answer = URP_DONE;
 
     switch (call) {
     case READ:
-        return lib->read(in->tags[k], in->tag_len, out->sheet,
-                         sizeof out->sheet, &out->len, &out->place);
+        answer = lib->read(in->tags[k], in->tag_len, out->sheet,
+                           sizeof out->sheet, &out->len, &out->place);
+        break;
     case WRITE:  /* the tag holds sheet 0: begin with 1 */
-        return lib->write(in->sheets[1 - k].bytes, in->sheets[1 - k].len,
-                          out->tag, in->tag_len, in->locks, locks_len,
-                          &out->pages);
+        answer = lib->write(in->sheets[1 - k].bytes, in->sheets[1 - k].len,
+                            out->tag, in->tag_len, in->locks, locks_len,
+                            &out->pages);
+        break;
     case EDIT:
-        return lib->edit(out->tag, in->tag_len, in->locks, locks_len,
-                         in->number, in->values[k], in->value_lens[k],
-                         out->old, sizeof out->old, &out->pages,
-                         &out->len, &out->place);
+        answer = lib->edit(out->tag, in->tag_len, in->locks, locks_len,
+                           in->number, in->values[k], in->value_lens[k],
+                           out->old, sizeof out->old, &out->pages,
+                           &out->len, &out->place);
+        break;
     case TO_TEXT:
-        return lib->to_text(in->words[k], in->words_lens[k], out->text,
-                            sizeof out->text, &out->len);
-    default:
-        return lib->to_words(in->texts[k], in->text_len, out->words,
-                             TEXT_MAX, &out->len);
+        answer = lib->to_text(in->words[k], in->words_lens[k], out->text,
+                              sizeof out->text, &out->len);
+        break;
+    case TO_WORDS:
+        answer = lib->to_words(in->texts[k], in->text_len, out->words,
+                               TEXT_MAX, &out->len);
+        break;
+    case CALLS:
+        break;
     }
+    out->wrong |= answer ^ in->answer;
 }
 
 /* Makes a call `turns` times, the inputs in turn from the first on. */
@@ -379,7 +388,7 @@ static void make_calls(const struct library *lib, enum call call,
     size_t i;
 
     for (i = 0; i < turns; i++)
-        out->wrong |= make_call(lib, call, in, out, i % 2) ^ in->answer;
+        make_call(lib, call, in, out, i % 2);
 }
 
 /* Whether a call that was made `turns` times has done nothing: a write or edit

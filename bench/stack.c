@@ -16,7 +16,7 @@
 
 enum {
     PAINTED = 32768,
-    KEPT = 256,      /* for the frames of paint and memset */
+    NEAR = 256,      /* of these, the bytes that paint and noted work in */
     PAINT = 0xA5,
     STEP = 64        /* bytes that are looked at together; divides the others */
 };
@@ -44,6 +44,27 @@ static void report(void)
                 (unsigned long)deepest[call][1]);
 }
 
+/* Paints, and looks for paint, in the bytes where the frames of paint and noted
+   would be: so without a call, in the function that makes the measured one. */
+#define WITHOUT_CALL static __inline__ __attribute__((always_inline))
+
+WITHOUT_CALL void paint_near(volatile uint8_t *top)
+{
+    long depth;
+
+    for (depth = NEAR; depth > 0; depth--)
+        top[-depth] = PAINT;
+}
+
+WITHOUT_CALL size_t near_depth(const volatile uint8_t *top)
+{
+    long depth = NEAR;
+
+    while (depth > 0 && top[-depth] == PAINT)
+        depth--;
+    return (size_t)depth;
+}
+
 static void paint(uint8_t *top)
 {
     static int is_first = 1;
@@ -54,23 +75,26 @@ static void paint(uint8_t *top)
             abort();
     }
     is_first = 0;
-    memset(top - PAINTED, PAINT, PAINTED - KEPT);
+    memset(top - PAINTED, PAINT, PAINTED - NEAR);
 }
 
-static uint32_t noted(enum call call, const uint8_t *top, uint32_t answer)
+static uint32_t noted(enum call call, const uint8_t *top, size_t near,
+                      uint32_t answer)
 {
     size_t depth = PAINTED;
     size_t *most = &deepest[call][answer != URP_DONE];
 
-    while (depth > KEPT && memcmp(top - depth, fresh, STEP) == 0)
+    while (depth > NEAR && memcmp(top - depth, fresh, STEP) == 0)
         depth -= STEP;
     if (depth == PAINTED) {
         fprintf(stderr, "stack: %s takes all that was painted\n",
                 call_names[call]);
         abort();
     }
-    while (depth > KEPT && top[-(long)depth] == PAINT)
+    while (depth > NEAR && top[-(long)depth] == PAINT)
         depth--;
+    if (depth == NEAR)
+        depth = near;
     if (*most < depth)
         *most = depth;
     return answer;
@@ -81,11 +105,13 @@ uint32_t stack_read(const uint8_t *tag, size_t tag_len,
                     size_t *used, size_t *place)
 {
     uint8_t *top;
+    uint32_t answer;
 
     GET_STACK_POINTER(top);
     paint(top);
-    return noted(READ, top, urp_read(tag, tag_len, sheet, sheet_len, used,
-                                     place));
+    paint_near(top);
+    answer = urp_read(tag, tag_len, sheet, sheet_len, used, place);
+    return noted(READ, top, near_depth(top), answer);
 }
 
 uint32_t stack_write(const uint8_t *sheet, size_t sheet_len,
@@ -94,11 +120,14 @@ uint32_t stack_write(const uint8_t *sheet, size_t sheet_len,
                      size_t *pages)
 {
     uint8_t *top;
+    uint32_t answer;
 
     GET_STACK_POINTER(top);
     paint(top);
-    return noted(WRITE, top, urp_write(sheet, sheet_len, tag, tag_len, locks,
-                                       locks_len, pages));
+    paint_near(top);
+    answer = urp_write(sheet, sheet_len, tag, tag_len, locks, locks_len,
+                       pages);
+    return noted(WRITE, top, near_depth(top), answer);
 }
 
 uint32_t stack_edit(uint8_t *tag, size_t tag_len,
@@ -109,12 +138,14 @@ uint32_t stack_edit(uint8_t *tag, size_t tag_len,
                     size_t *pages, size_t *old_used, size_t *place)
 {
     uint8_t *top;
+    uint32_t answer;
 
     GET_STACK_POINTER(top);
     paint(top);
-    return noted(EDIT, top, urp_edit(tag, tag_len, locks, locks_len, number,
-                                     value, value_len, old, old_len, pages,
-                                     old_used, place));
+    paint_near(top);
+    answer = urp_edit(tag, tag_len, locks, locks_len, number, value, value_len,
+                      old, old_len, pages, old_used, place);
+    return noted(EDIT, top, near_depth(top), answer);
 }
 
 uint32_t stack_words_to_text(const uint16_t *words, size_t words_len,
@@ -122,11 +153,13 @@ uint32_t stack_words_to_text(const uint16_t *words, size_t words_len,
                              size_t *used)
 {
     uint8_t *top;
+    uint32_t answer;
 
     GET_STACK_POINTER(top);
     paint(top);
-    return noted(TO_TEXT, top, urp_words_to_text(words, words_len, text,
-                                                 text_len, used));
+    paint_near(top);
+    answer = urp_words_to_text(words, words_len, text, text_len, used);
+    return noted(TO_TEXT, top, near_depth(top), answer);
 }
 
 uint32_t stack_text_to_words(const uint8_t *text, size_t text_len,
@@ -134,9 +167,11 @@ uint32_t stack_text_to_words(const uint8_t *text, size_t text_len,
                              size_t *used)
 {
     uint8_t *top;
+    uint32_t answer;
 
     GET_STACK_POINTER(top);
     paint(top);
-    return noted(TO_WORDS, top, urp_text_to_words(text, text_len, words,
-                                                  words_len, used));
+    paint_near(top);
+    answer = urp_text_to_words(text, text_len, words, words_len, used);
+    return noted(TO_WORDS, top, near_depth(top), answer);
 }
