@@ -1,5 +1,5 @@
 #!/usr/bin/env python3
-"""Wrong models of document 01, and whether anybody sees that they are wrong: tests/mutants.py [FILE ..] -- DRIVER ..
+"""Wrong models of documents 01 and 02, and whether anybody sees that they are wrong: tests/mutants.py [FILE ..] -- DRIVER ..
 
 Changes one literal, comparison or operator of src/model (or of the named FILEs there) at a time, in copies under target/mutants. A wrong
 model is seen where its own tests fail, or where a short comparison with the library differs; DRIVER .. are the words that run the driver.
@@ -37,6 +37,9 @@ SWAPS = [(re.compile(pattern), others.split(' ')) for pattern, others in [
     (r'(?<![\w!=])!(?=[\w(])', ''),
     (r'(?<= )\+(?= )', '-'),
     (r'(?<= )-(?= )', '+'),
+    (r'(?<= )\*(?= )', '+'),
+    (r'(?<= )/(?= )', '*'),
+    (r'(?<= )%(?= )', '/'),
     (r'(?<= )&(?= )', '| ^'),
     (r'(?<= )\^(?= )', '|'),
     (r'(?<= )<<(?= )', '>>'),
@@ -78,6 +81,25 @@ BY_HAND = [
     ('sheet.rs', 'head[2]])) == place', 'head[2]])) == place && place < 65_535'),
     ('text.rs', '(0x20..=0x7E).contains(byte)', '(0x20..=0x7E).contains(byte) || *byte >= 0x80'),
     ('text.rs', '(0x20..=0x7E).contains(byte)', '(0x20..=0x7E).contains(byte) || *byte == 9'),
+    # A reader that takes FA by its first byte; pads anywhere; pads alone; FC for the others only; 00 as a pad.
+    ('words.rs', 'let sum = word.checked_sub(1)?;', 'let sum = if high == 0xFA { 63_999 } else { word.checked_sub(1)? };'),
+    ('words.rs', 'held.iter().map(|value| character(*value)).collect()', 'held.iter().filter(|value| **value != PAD).map(|value| character(*value)).collect()'),
+    ('words.rs', 'characters.filter(|characters| !characters.is_empty())', 'characters'),
+    ('words.rs', 'low.is_ascii().then_some(vec![low])', '(low.is_ascii() && value(low).is_none()).then_some(vec![low])'),
+    ('words.rs', 'low.is_ascii().then_some(vec![low])', 'low.is_ascii().then_some(if low == 0 { vec![] } else { vec![low] })'),
+    ('words.rs', 'low.is_ascii().then_some(vec![low])', 'Some(vec![low & 0x7F])'),
+    ('words.rs', 'word.to_be_bytes()', 'word.to_le_bytes()'),
+    # 2 before 20 and 21.
+    ('words.rs', 'fill(text, &text_of(words)?)', 'need(text.len() >= words.len(), refusal::ROOM)?;\n    fill(text, &text_of(words)?)'),
+    ('words.rs', 'fill(words, &words_of(text)?)', 'need(3 * words.len() >= text.len(), refusal::ROOM)?;\n    fill(words, &words_of(text)?)'),
+    # A writer that folds; that goes on with a run; that ends every run with a word of its own; that makes FC of all.
+    ('words.rs', 'position(|known| *known == character)', 'position(|known| *known == character.to_ascii_uppercase())'),
+    ('words.rs', 'value(*one).is_some() && value(*next).is_some()', 'value(*one).is_some()'),
+    ('words.rs', 'value(*one).is_some() && value(*next).is_some()', 'value(*next).is_some()'),
+    ('words.rs', 'value(*one).is_some() && value(*next).is_some()', 'value(*one).is_some() == value(*next).is_some()'),
+    ('words.rs', 'run.chunks(3).map(packed).collect()', 'run.chunks(3).chain((run.len() % 3 == 0).then_some(&[][..])).map(packed).collect()'),
+    ('words.rs', 'run.chunks(3).map(packed).collect()', 'run.rchunks(3).rev().map(packed).collect()'),
+    ('words.rs', 'text.is_ascii(), refusal::HIGH', 'text.first().is_none_or(u8::is_ascii), refusal::HIGH'),
 ]
 
 # Changes that leave the model right: file, a part of the changed line, why no input tells them apart.
@@ -175,7 +197,8 @@ class Workplace:
     def __init__(self, number, driver):
         self.folder = WORK / str(number)
         self.tests = self.folder / 'tests'
-        self.runs = [('read', '0', driver), ('write', '0', driver), ('edit', '0', driver), ('histories', '100', driver), ('taglist', '0', [str(ROOT / 'build' / 'taglist')])]
+        self.runs = [('read', '0', driver), ('write', '0', driver), ('edit', '0', driver), ('to_text', '0', driver), ('to_words', '0', driver),
+                     ('histories', '100', driver), ('taglist', '0', [str(ROOT / 'build' / 'taglist')])]
         shutil.rmtree(self.tests, ignore_errors=True)
         shutil.copytree(TESTS, self.tests)
         self.environment = dict(os.environ, CARGO_TARGET_DIR=str(self.folder / 'target'), CARGO_PROFILE_DEV_OPT_LEVEL='1', CARGO_PROFILE_DEV_DEBUG='0')

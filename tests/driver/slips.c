@@ -1,5 +1,5 @@
 /* Libraries that are wrong in one thing, so that the comparison can be seen to fail: bench/plain.c, its calls renamed
-   to plain_read, plain_write and plain_edit, behind calls with the slip that SLIP names. tests/faults tries them all. */
+   to plain_read, plain_write and so on, behind calls with the slip that SLIP names. tests/faults tries them all. */
 #include "urpanella.h"
 
 #define NONE 0
@@ -18,11 +18,31 @@
 #define PLACE_AT_FIELD 13  /* reading, editing: 6 has a place */
 #define PLACE_WHEN_DONE 14 /* reading, editing: a call that is done sets the place to 0 */
 #define STILL_5 15         /* reading, editing: damage is 5, whatever it is */
+#define PAD_INSIDE 16      /* words into text: a pad between two characters is accepted */
+#define THREE_PADS 17      /* words into text: three pads are accepted */
+#define FA_OR_LOWER 18     /* words into text: FA01 to FAFF are accepted */
+#define FC_ABOVE_7F 19     /* words into text: FC80 to FCFF are accepted */
+#define FC_FOR_OTHERS 20   /* words into text: FC is refused for one of the 39 */
+#define FC_00_IS_PAD 21    /* words into text: FC00 is no character */
+#define PADS_AS_WRITTEN 22 /* words into text: pads are accepted only before FC and at the end */
+#define BYTE_PAIRS 23      /* words into text: a word's bytes the other way round */
+#define FOLDED 24          /* text into words: lower case becomes upper case */
+#define RUN_ON 25          /* text into words: a run goes on across a character outside the 39 */
+#define EMPTY_WORD 26      /* text into words: a word of pads at the end, where nothing is left */
+#define SEVEN_BITS 27      /* text into words: the high bit is dropped, and not refused */
+#define STORED_FIRST 28    /* both: what stands before a bad word or byte is stored, and then it is found */
+#define ROOM_FIRST 29      /* both: 2 before 20 and 21 */
+#define ROOM_LESS 30       /* both: just the room is not enough */
+#define ROOM_MORE 31       /* both: one less than the room is enough */
+#define MOST_ROOM 32       /* both: room is wanted for the longest output of so many words or characters */
+#define USED_TOUCHED 33    /* both: a refusal sets the count */
 
 uint32_t plain_read(const uint8_t *, size_t, uint8_t *, size_t, size_t *, size_t *);
 uint32_t plain_write(const uint8_t *, size_t, uint8_t *, size_t, const uint8_t *, size_t, size_t *);
 uint32_t plain_edit(uint8_t *, size_t, const uint8_t *, size_t, uint32_t, const uint8_t *, size_t, uint8_t *, size_t,
                     size_t *, size_t *, size_t *);
+uint32_t plain_words_to_text(const uint16_t *, size_t, uint8_t *, size_t, size_t *);
+uint32_t plain_text_to_words(const uint8_t *, size_t, uint16_t *, size_t, size_t *);
 
 static volatile uint8_t looked_at;
 
@@ -91,4 +111,107 @@ uint32_t urp_edit(uint8_t *tag, size_t tag_len, const uint8_t *locks, size_t loc
     if (SLIP == LOCK_CHANGED && answer == URP_LOCKED)
         *(uint8_t *)locks ^= 1;
     return misplaced(answer, tag, tag_len, place);
+}
+
+/* What the plain call is given instead of what was lent, so that it does what the slip would. */
+enum { MOST = 1 << 18 };
+static uint16_t other_words[MOST];
+static uint8_t other_text[MOST];
+
+/* One of the 39. */
+static int is_basic(unsigned c)
+{
+    return (c >= 'A' && c <= 'Z') || (c >= '0' && c <= ':') || c == '-' || c == '.';
+}
+
+/* Puts the words as the slip takes them, a word without a meaning for one that it refuses, and gives their count. */
+static size_t mistake_words(const uint16_t *words, size_t words_len)
+{
+    size_t i, count = 0;
+    for (i = 0; i < words_len; i++) {
+        unsigned word = words[i], sum = word - 1, high = word >> 8;
+        unsigned first = sum / 1600, second = sum / 40 % 40, third = sum % 40;
+        int of_three = word >= 1 && word <= 0xFA00;
+        if ((SLIP == THREE_PADS && word == 1) || (SLIP == FC_00_IS_PAD && word == 0xFC00))
+            continue;
+        if (SLIP == PAD_INSIDE && of_three && first != 0 && second == 0)
+            word = 1600 * first + 40 * third + 1;
+        if (SLIP == FA_OR_LOWER && high == 0xFA)
+            word = 0xFA00;
+        if (SLIP == FC_ABOVE_7F && high == 0xFC)
+            word &= 0xFC7F;
+        if (SLIP == FC_FOR_OTHERS && high == 0xFC && is_basic(word & 0xFF))
+            word = 0;
+        if (SLIP == PADS_AS_WRITTEN && of_three && third == 0 && i + 1 < words_len && words[i + 1] >> 8 != 0xFC)
+            word = 0;
+        if (SLIP == BYTE_PAIRS)
+            word = (word & 0xFF) << 8 | high;
+        other_words[count++] = (uint16_t)word;
+    }
+    return count;
+}
+
+/* Puts the text as the slip takes it, and gives the count of characters at its end that make no word of three. */
+static size_t mistake_text(const uint8_t *text, size_t text_len)
+{
+    size_t i, k, begun = 0;
+    for (i = 0; i < text_len; i++) {
+        uint8_t c = text[i];
+        if (SLIP == FOLDED && c >= 'a' && c <= 'z')
+            c -= 'a' - 'A';
+        if (SLIP == SEVEN_BITS)
+            c &= 0x7F;
+        other_text[i] = c;
+        if (is_basic(c)) {
+            begun = (begun + 1) % 3;
+        } else if (SLIP == RUN_ON) {
+            /* Its word is stored before that of the characters begun. */
+            for (k = 0; k < begun; k++)
+                other_text[i - k] = other_text[i - k - 1];
+            other_text[i - begun] = c;
+        } else {
+            begun = 0;
+        }
+    }
+    return begun;
+}
+
+/* The room that a slip of both calls believes in, where most is what the longest output takes. */
+static size_t believed(size_t room, size_t most)
+{
+    if (SLIP == ROOM_LESS && room > 0)
+        return room - 1;
+    if (SLIP == ROOM_MORE)
+        return room + 1;
+    if (SLIP == MOST_ROOM && room < most)
+        return 0;
+    return room;
+}
+
+uint32_t urp_words_to_text(const uint16_t *words, size_t words_len, uint8_t *text, size_t text_len, size_t *used)
+{
+    size_t other, count = mistake_words(words, words_len);
+    uint32_t answer = plain_words_to_text(other_words, count, text, believed(text_len, 3 * words_len), used);
+    if (SLIP == ROOM_FIRST && answer == URP_WORD && text_len < words_len)
+        return URP_ROOM;
+    if (SLIP == STORED_FIRST && answer == URP_WORD)
+        plain_words_to_text(words, 1, text, text_len, &other);
+    if (SLIP == USED_TOUCHED && answer != URP_DONE)
+        *used = 0;
+    return answer;
+}
+
+uint32_t urp_text_to_words(const uint8_t *text, size_t text_len, uint16_t *words, size_t words_len, size_t *used)
+{
+    size_t other, begun = mistake_text(text, text_len);
+    uint32_t answer = plain_text_to_words(other_text, text_len, words, believed(words_len, text_len), used);
+    if (SLIP == ROOM_FIRST && answer == URP_CHARACTER && 3 * words_len < text_len)
+        return URP_ROOM;
+    if (SLIP == STORED_FIRST && answer == URP_CHARACTER)
+        plain_text_to_words(text, 1, words, words_len, &other);
+    if (SLIP == EMPTY_WORD && answer == URP_DONE && text_len > 0 && begun == 0 && *used < words_len)
+        words[(*used)++] = 1;
+    if (SLIP == USED_TOUCHED && answer != URP_DONE)
+        *used = 0;
+    return answer;
 }

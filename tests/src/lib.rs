@@ -1,10 +1,11 @@
-//! The independent program: document 01 and request E1 of document 02 written down a second time, from the papers alone.
+//! The independent program: document 01 and requests E1 and E2 of document 02 written down a second time, from the papers
+//! alone.
 //!
-//! - [`model`]: the reader, the writer, the editor and the listing.
+//! - [`model`]: the reader, the writer, the editor, the listing, and UHF words.
 //! - [`build`], [`examples`]: bytes put together by hand, and the cases that the papers print.
 //! - [`alphabets`]: every byte in every field.
 //! - [`trial`]: the calls as the tests make them.
-//! - [`random`], [`generate`]: whole, loose and damaged sheets, tags, lock maps and edits from a seed.
+//! - [`random`], [`generate`]: whole, loose and damaged sheets, tags, lock maps, edits, words and texts from a seed.
 //! - [`history`]: many edits of one tag, and the way back.
 //! - [`compare`]: runs a library, through the C driver, on such cases and compares every answer and every byte.
 

@@ -142,18 +142,10 @@ fn words_are_framed_low_byte_first_and_told_as_the_papers_print_them() {
 }
 
 #[test]
-fn words_of_a_text_are_expected_to_read_back_whatever_the_model_says() {
+fn what_the_law_expects_of_the_words_of_a_text_is_what_the_model_says() {
     let cases = to_text_cases::random(1, 3000).filter(|case| case.group == "words of a text, read back");
-    let cases: Vec<Case> = cases.collect();
-    assert!(cases.len() > 400);
-    for case in cases {
-        let text = &case.expected.buffers[1][..case.expected.results[0] as usize];
-        assert_eq!(case.call.outcome().frame(), case.expected.frame());
-        assert_eq!(
-            Call::to_words(text.to_vec(), &vec![0; text.len()]).outcome().buffers[1][..case.call.buffers[0].len()],
-            case.call.buffers[0]
-        );
-    }
+    let agree: Vec<bool> = cases.map(|case| case.call.outcome() == case.expected).collect();
+    assert!(agree.len() > 400 && agree.iter().all(|agree| *agree));
 }
 
 #[test]
@@ -188,6 +180,18 @@ fn half_of_all_buffers_begin_behind_a_guard_and_half_of_the_empty_ones_are_null(
         *times.entry((placing.null, placing.behind_guard)).or_default() += 1;
     }
     assert!(times.len() == 4 && times.values().all(|times| (60..=68).contains(times)), "{times:?}");
+}
+
+#[test]
+fn nothing_is_made_words_or_text_of_in_every_placing() {
+    // The fixed cases that begin a run are its first batch.
+    let placings = |cases: &mut dyn Iterator<Item = Case>| {
+        let empty = cases.take(16).enumerate().filter(|(_, case)| case.call.length() == 0);
+        let placings = empty.map(|(place, _)| Placing::of(place));
+        placings.map(|placing| (placing.null, placing.behind_guard)).collect::<BTreeSet<_>>().len()
+    };
+    assert_eq!(placings(&mut to_text_cases::all(1, 0)), 4);
+    assert_eq!(placings(&mut to_words_cases::all(1, 0)), 4);
 }
 
 #[test]

@@ -202,7 +202,7 @@ fn point_13_fb_fd_fe_and_ff_have_no_meaning() {
             assert_eq!(to_text(&[u16::from_be_bytes([high, low])]), Err(20), "{high:02X}{low:02X}");
         }
     }
-    // 002, D.2.2: 123456789 as an integer of four bytes, and e with an acute accent in UTF-8, each followed by pads.
+    // 002, D.2.2: 123456789 as an integer of four bytes; e with an acute accent in UTF-8, filled up with 00.
     assert_eq!(to_text(&[0xFB00, 0x075B, 0xCD15]), Err(20));
     assert_eq!(to_text(&[0xFDC3, 0xA900]), Err(20));
     let digits = to_words(b"123456789123456789").unwrap();
@@ -366,6 +366,8 @@ fn point_22_slips_of_the_sources() {
     let printed = [0x141C, 0xC04F, 0xC70B, 0xADB5, 0xADB5, 0xDA1D, 0xED4D, 0xD319];
     assert_eq!(to_text(&printed).as_deref(), Ok(&b"CH-000134-1.-1.45678.31"[..]));
     assert_eq!((to_words(b"-1."), to_words(b"123")), (Ok(vec![0xADB5]), Ok(vec![0xC6E2])));
+    // 002 also has the letter O in the second word.
+    assert!(u16::from_str_radix("CO4F", 16).is_err() && to_words(b"000") == Ok(vec![0xC04F]));
     // The three words that it works out are right; a base 10 stands behind each sum as two more digits.
     assert_eq!((to_words(b"CH-"), 0x141C), (Ok(vec![1600 * 3 + 40 * 8 + 27 + 1]), 5148));
     assert_eq!((to_words(b"000"), 0xC04F), (Ok(vec![1600 * 30 + 40 * 30 + 30 + 1]), 49_231));

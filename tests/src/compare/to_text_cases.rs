@@ -8,7 +8,7 @@ use crate::random::Random;
 
 /// The fixed cases and so many random ones.
 pub fn all(seed: u64, count: usize) -> impl Iterator<Item = Case> + Send {
-    let fixed = published().chain(every_word()).chain(spoiled()).chain(rooms()).chain(long());
+    let fixed = nothing().chain(published()).chain(every_word()).chain(spoiled()).chain(rooms()).chain(long());
     fixed.chain(random(seed, count))
 }
 
@@ -56,6 +56,11 @@ fn read_back(random: &mut Random) -> Case {
     Case { group: "words of a text, read back", call, expected }
 }
 
+/// No words, often enough that the buffers are passed in every way.
+fn nothing() -> impl Iterator<Item = Case> + Send {
+    (0..16).map(|time| Case::new("no words", Call::to_text(&[], vec![0xEE; time / 8])))
+}
+
 /// The papers' words in every room up to one more than is needed.
 fn published() -> impl Iterator<Item = Case> + Send {
     let other = [0x1AD4, 0xC1C1, 0xFC2F, 0xCC61, 0xFC61];
@@ -89,7 +94,7 @@ fn spoiled() -> impl Iterator<Item = Case> + Send {
 /// Every row of up to four words of one, two and three characters and behind FC, with the room exact, one short, one more
 /// and none.
 fn rooms() -> impl Iterator<Item = Case> + Send {
-    let words = [(of_basic(b"Z"), 1), (of_basic(b"9:"), 2), (of_basic(b"A-0"), 3), (of_one(b'q'), 1)];
+    let words = [(of_basic(b"Z"), 1), (of_basic(b"9:"), 2), (of_basic(b"A-0"), 3), (of_one(0), 1)];
     let rows = (0..=4).flat_map(|length| (0..4usize.pow(length)).map(move |row| (length, row)));
     rows.flat_map(move |(length, row)| {
         let row: Vec<(u16, usize)> = (0..length).map(|place| words[row / 4usize.pow(place) % 4]).collect();
@@ -100,17 +105,16 @@ fn rooms() -> impl Iterator<Item = Case> + Send {
     })
 }
 
-/// Counts of words and of characters that pass 255 and 65,535, with a bad word at the end and without.
+/// Counts of words and of characters that pass 255 and 65,535: just the room, one short, and a bad word at the end.
 fn long() -> impl Iterator<Item = Case> + Send {
-    let kinds = [(of_basic(b"999"), 3), (of_basic(b"Q"), 1), (of_one(b'q'), 1)];
-    let lengths = [85, 86, 255, 256, 257, 21_845, 21_846, 65_535, 65_536, 65_537];
-    kinds.into_iter().flat_map(move |(word, characters)| {
+    let kinds = [(of_basic(b"999"), 3, [85, 86, 21_845, 21_846]), (of_one(b'q'), 1, [255, 256, 65_535, 65_536])];
+    kinds.into_iter().flat_map(move |(word, characters, lengths)| {
         lengths.into_iter().flat_map(move |length| {
             let words = vec![word; length];
             let bad = [&words[..], &[0]].concat();
             let exact = length * characters;
             [(words.clone(), exact), (words, exact - 1), (bad, exact)]
-                .map(|(words, room)| Case::new("85 to 65,537 words", Call::to_text(&words, vec![0xEE; room])))
+                .map(|(words, room)| Case::new("85 to 65,536 words", Call::to_text(&words, vec![0xEE; room])))
         })
     })
 }

@@ -8,7 +8,8 @@ use crate::random::Random;
 
 /// The fixed cases and so many random ones.
 pub fn all(seed: u64, count: usize) -> impl Iterator<Item = Case> + Send {
-    let fixed = published().chain(every_byte()).chain(short()).chain(rooms()).chain(spoiled()).chain(long());
+    let characters = nothing().chain(published()).chain(every_byte()).chain(short());
+    let fixed = characters.chain(rooms()).chain(spoiled()).chain(long());
     fixed.chain(random(seed, count))
 }
 
@@ -39,6 +40,11 @@ fn words_in(text: &[u8]) -> Option<usize> {
 /// What stands in a buffer of words before it is filled.
 fn unfilled(room: usize) -> Vec<u16> {
     vec![0xEEEE; room]
+}
+
+/// No text, often enough that the buffers are passed in every way.
+fn nothing() -> impl Iterator<Item = Case> + Send {
+    (0..16).map(|time| Case::new("no text", Call::to_words(vec![], &unfilled(time / 8))))
 }
 
 /// The papers' texts in every room up to one more than is needed.
@@ -104,17 +110,20 @@ fn spoiled() -> impl Iterator<Item = Case> + Send {
     })
 }
 
-/// Counts of characters and of words that pass 255 and 65,535, with a bad byte at the end and without.
+/// Counts of characters and of words that pass 255 and 65,535: just the room, one short, and a bad byte at the end.
 fn long() -> impl Iterator<Item = Case> + Send {
-    let kinds: [&[u8]; 4] = [b"9", b"q", b"Q/", &BESIDE];
-    let lengths = [255, 256, 257, 765, 766, 768, 65_535, 65_536, 65_537, 196_605, 196_608, 196_611];
-    kinds.into_iter().flat_map(move |kind| {
+    let kinds: [(&[u8], [usize; 4]); 3] = [
+        (b"9", [765, 768, 196_605, 196_606]),
+        (b"Q/", [255, 256, 65_535, 65_536]),
+        (&BESIDE, [255, 256, 65_535, 65_536]),
+    ];
+    kinds.into_iter().flat_map(move |(kind, lengths)| {
         lengths.into_iter().flat_map(move |length| {
             let text: Vec<u8> = kind.iter().copied().cycle().take(length).collect();
             let exact = words_in(&text).expect("characters up to 7F");
             let bad = [&text[..], &[0x80]].concat();
             [(text.clone(), exact), (text, exact - 1), (bad, exact)]
-                .map(|(text, room)| Case::new("255 to 196,611 characters", Call::to_words(text, &unfilled(room))))
+                .map(|(text, room)| Case::new("255 to 196,606 characters", Call::to_words(text, &unfilled(room))))
         })
     })
 }
