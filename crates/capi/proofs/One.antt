@@ -4,6 +4,8 @@ use Prim.Native.Nat.{ℕ}
 use mathlib.Core.List.{List}
 use Rattle.format.specs.Numbers.{ReadsC, WritesC, EditsC}
 use Rattle.format.proofs.Promises.{c-reads-one, c-writes-one, c-edits-one}
+use Rattle.words.specs.Calls.{decoding, encoding, FillsC}
+use Rattle.words.proofs.Promises.{c-fills-one}
 
 pub urp-read-one : (tag sheet : List ℕ) (used place r r₂ : ℕ) (sheet′ sheet₂ : List ℕ) (used′ used₂ place′ place₂ : ℕ)
     → ReadsC tag sheet used place r sheet′ used′ place′
@@ -22,3 +24,15 @@ pub urp-edit-one : (tag locks : List ℕ) (number : ℕ) (value old : List ℕ) 
     → EditsC tag locks number value old pages used place r₂ tag₂ old₂ pages₂ used₂ place₂
     → (r ≡ r₂) × (tag′ ≡ tag₂) × (old′ ≡ old₂) × (pages′ ≡ pages₂) × (used′ ≡ used₂) × (place′ ≡ place₂)
 urp-edit-one = c-edits-one
+
+pub urp-words-to-text-one : (words text : List ℕ) (used r r₂ : ℕ) (text′ text₂ : List ℕ) (used′ used₂ : ℕ)
+    → FillsC (decoding words text) used r text′ used′
+    → FillsC (decoding words text) used r₂ text₂ used₂
+    → (r ≡ r₂) × (text′ ≡ text₂) × (used′ ≡ used₂)
+urp-words-to-text-one words text = c-fills-one (decoding words text)
+
+pub urp-text-to-words-one : (text words : List ℕ) (used r r₂ : ℕ) (words′ words₂ : List ℕ) (used′ used₂ : ℕ)
+    → FillsC (encoding text words) used r words′ used′
+    → FillsC (encoding text words) used r₂ words₂ used₂
+    → (r ≡ r₂) × (words′ ≡ words₂) × (used′ ≡ used₂)
+urp-text-to-words-one text words = c-fills-one (encoding text words)

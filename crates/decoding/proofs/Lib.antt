@@ -1,4 +1,3 @@
-mod Characters
 mod Meaning
 mod Judging
 mod Putting

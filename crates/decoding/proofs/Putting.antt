@@ -3,15 +3,12 @@ use mathlib.Core.Path.{_≡_, refl, sym, ap, _∙_}
 use Prim.Native.Nat.{ℕ, _+_, _≤_, _<_}
 use native.Mathlib.Omega.{arith}
 use native.Mathlib.Numerals.{add-one}
-use mathlib.Core.Bool.{true}
 use mathlib.Core.List.{List, [], _∷_, _++_, append-nil}
 use lib.ListN.{length, take, drop, getD, length-append, take-append-drop}
-use lib.Seq.{drop-cons, take-suc, take-all}
-use Rattle.format.specs.Bytes.{all}
+use lib.Seq.{take-suc, take-all}
 use Rattle.format.specs.Pieces.{stored}
 use Rattle.format.proofs.Pieces.{stored-none, stored-then, stored-as, stored-length}
-use Rattle.format.proofs.Tests.{and-l, all-drop}
-use Rattle.words.specs.Code40.{charactersOf, meaningful, textOf}
+use Rattle.words.specs.Code40.{charactersOf, textOf}
 use Rattle.words.proofs.Words.{text-append}
 use Rattle.decoding.proofs.Judging.{text-at}
 
@@ -34,12 +31,6 @@ text-on ws i h =
 
 text-split : (ws : List ℕ) (i : ℕ) → textOf ws ≡ textOf (take i ws) ++ textOf (drop i ws)
 text-split ws i = ap textOf (sym (take-append-drop i ws)) ∙ text-append (take i ws) (drop i ws)
-
--- what all pass, the word at i does
-pub meaning-at : (ws : List ℕ) (i : ℕ) → all meaningful ws ≡ true → i < length ws → meaningful (getD ws i 0) ≡ true
-unfolding all
-meaning-at ws i e h =
-    and-l (meaningful (getD ws i 0)) _ (sym (ap (all meaningful) (drop-cons ws i 0 h)) ∙ all-drop meaningful i ws e)
 
 module _ {ws before : List ℕ} {i end : ℕ} {after : List ℕ} (p : Putting ws before i end after) (h : i < length ws) (room : length (textOf ws) ≤ length before) where
   -- the word at i has its room

@@ -3,12 +3,12 @@ use mathlib.Core.Path.{_≡_, refl, sym, ap, _∙_}
 use Prim.Native.Nat.{ℕ, _+_, _≤_, _<_}
 use native.Mathlib.Numerals.{add-one}
 use mathlib.Core.Bool.{Bool, true}
-use mathlib.Core.List.{List, [], _∷_}
+use mathlib.Core.List.{List}
 use lib.ListN.{length, drop, getD, set, replicate, drop-of-length-le}
 use lib.Dec.{eqb}
 use borrow.Author.Tests.{eqb-true}
-use Rattle.format.specs.Bytes.{all}
-use Rattle.words.specs.Code40.{valueOf, is646}
+use Rattle.words.specs.Code40.{valueOf}
+use Rattle.words.proofs.Alphabet.{characters}
 use Rattle.words.proofs.Values.{below, below-at}
 use Rattle.encoding.specs.Walk.{marked, Table}
 use Rattle.encoding.proofs.Places.{next-at}
@@ -31,19 +31,7 @@ pub marking-ends : {alphabet before : List ℕ} {i : ℕ} {values : List ℕ} �
 unfolding marked
 marking-ends {alphabet} {before} {i} {values} m h = sym (ap (λ (s : List ℕ). marked (i + 1) s values) (drop-of-length-le alphabet h)) ∙ m .rest
 
--- ---- the alphabet of the code, and the table that comes of it
-
--- A to Z, hyphen, dot, colon, 0 to 9: the const `ALPHABET`
-unfoldable pub characters : List ℕ
-characters =
-    0x41 ∷ 0x42 ∷ 0x43 ∷ 0x44 ∷ 0x45 ∷ 0x46 ∷ 0x47 ∷ 0x48 ∷ 0x49 ∷ 0x4A ∷ 0x4B ∷ 0x4C ∷ 0x4D ∷
-    0x4E ∷ 0x4F ∷ 0x50 ∷ 0x51 ∷ 0x52 ∷ 0x53 ∷ 0x54 ∷ 0x55 ∷ 0x56 ∷ 0x57 ∷ 0x58 ∷ 0x59 ∷ 0x5A ∷
-    0x2D ∷ 0x2E ∷ 0x3A ∷
-    0x30 ∷ 0x31 ∷ 0x32 ∷ 0x33 ∷ 0x34 ∷ 0x35 ∷ 0x36 ∷ 0x37 ∷ 0x38 ∷ 0x39 ∷ []
-
-pub characters-low : all is646 characters ≡ true
-unfolding all characters
-characters-low = refl
+-- ---- the table that comes of the alphabet
 
 -- a table in which nothing is marked
 unfoldable pub unmarked : List ℕ

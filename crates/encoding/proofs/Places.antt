@@ -11,7 +11,7 @@ use lib.Seq.{drop-cons, getD-drop}
 use lib.Dec.{ltb}
 use borrow.Author.Tests.{eq-eqb, ne-eqb, ltb-true, ltb-false, leb-true}
 use Rattle.format.specs.Bytes.{all}
-use Rattle.format.proofs.Tests.{and-l, all-drop}
+use Rattle.format.proofs.Passing.{passed-at}
 use Rattle.words.specs.Code40.{valueOf, outside, is646}
 use Rattle.words.specs.Meaning.{Ends, end, before}
 use Rattle.words.proofs.Cases.{decide}
@@ -23,10 +23,7 @@ next-at s i h = rw add-one (drop-cons s i 0 h)
 
 -- where all characters are at most 7F, so is the one at i,
 pub low-at : (s : List ℕ) (i : ℕ) → all is646 s ≡ true → i < length s → getD s i 0 < 0x80
-unfolding all
-low-at s i e h =
-    let test : is646 (getD s i 0) ≡ true = and-l (is646 (getD s i 0)) _ (sym (ap (all is646) (next-at s i h)) ∙ all-drop is646 i s e) in
-    omega (arith, leb-true (getD s i 0) 0x7F test)
+low-at s i e h = omega (arith, leb-true (getD s i 0) 0x7F (passed-at is646 s i e h))
 
 -- and the table has its value
 pub found-at : (values s : List ℕ) (i : ℕ) → Table values → all is646 s ≡ true → i < length s

@@ -19,7 +19,7 @@ fn mark_values(alphabet: &[u8; 39], values: &mut [u8; 128])
     requires { ⌜ all is646 (now alphabet) ≡ true ⌝ }
     ensures { λ _. ⌜ now (values .exit) ≡ marked 1 (now (alphabet .entry)) (now (values .entry)) ⌝ }
 {
-    // as a slice, of which the proof knows the length
+    // as a slice: of a lent array no contract knows the length
     let characters: &[u8] = alphabet;
     let mut i: usize = 0;
     while i < characters.len() {

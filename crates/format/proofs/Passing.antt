@@ -1,4 +1,4 @@
--- A loop that puts each byte of a string to a test: what it knows at each turn, and how a turn keeps it.
+-- A loop that puts each byte of a string to a test: what it knows at each turn, and how a turn keeps it. And what it found, at a place.
 use mathlib.Core.Path.{_≡_, refl, sym, ap, _∙_}
 use Prim.Native.Nat.{ℕ, suc, _+_, _≤_, _<_}
 use native.Mathlib.Omega.{arith}
@@ -8,6 +8,7 @@ use mathlib.Core.List.{List}
 use lib.ListN.{length, drop, getD, drop-of-length-le}
 use lib.Seq.{drop-cons}
 use Rattle.format.specs.Bytes.{all}
+use Rattle.format.proofs.Tests.{and-l, all-drop}
 
 -- the bytes before i pass it, so those from i on decide
 pub record Passing (f : ℕ → Bool) (s : List ℕ) (i : ℕ) : Type 0 where
@@ -31,3 +32,8 @@ module _ (f : ℕ → Bool) (s : List ℕ) where
   pub passing-all : (i : ℕ) → Passing f s i → length s ≤ i → true ≡ all f s
   unfolding all
   passing-all i p h = sym (ap (all f) (drop-of-length-le s h)) ∙ p .rest
+
+  -- what all pass, the one at i does
+  pub passed-at : (i : ℕ) → all f s ≡ true → i < length s → f (getD s i 0) ≡ true
+  unfolding all
+  passed-at i e h = and-l (f (getD s i 0)) _ (sym (ap (all f) (drop-cons s i 0 h)) ∙ all-drop f i s e)

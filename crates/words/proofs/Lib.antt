@@ -1,5 +1,6 @@
 pub mod Cases
 pub mod Values
+pub mod Alphabet
 pub mod Words
 pub mod Meanings
 pub mod Runs

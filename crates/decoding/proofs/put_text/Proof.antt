@@ -2,7 +2,9 @@
 use Prim.Native.Nat.{_-_}
 use borrow.Author.Needs.{needs}
 use lib.ListN.{length}
-use Rattle.decoding.proofs.Putting.{Putting, putting-start, meaning-at, room-at, putting-on, putting-all}
+use Rattle.format.proofs.Passing.{passed-at}
+use Rattle.words.specs.Code40.{meaningful}
+use Rattle.decoding.proofs.Putting.{Putting, putting-start, room-at, putting-on, putting-all}
 use Rattle.decoding.proofs.put_text.Statement.{statement}
 use Rattle.decoding.proofs.put_text.Tie as tie
 
@@ -25,7 +27,7 @@ put-characters-requires : tie.Need-put-characters-requires Inv-loop μ-loop
 put-characters-requires c κs =
     let pre = c .before .before .before .before .before .before .pre in
     let h = c .before .before .loop-test .taken in
-    (pre .0, meaning-at _ _ (pre .1) h, room-at (c .before .before .before .loop .inv) h (pre .2))
+    (pre .0, passed-at meaningful _ _ (pre .1) h, room-at (c .before .before .before .loop .inv) h (pre .2))
 
 add-i : tie.Need-add-i Inv-loop μ-loop
 add-i c = search needs

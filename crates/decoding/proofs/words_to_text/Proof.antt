@@ -7,8 +7,8 @@ use Rattle.format.specs.Numbers.{answerGiven}
 use Rattle.format.proofs.Pieces.{stored-front}
 use Rattle.words.specs.Code40.{meaningful, textOf}
 use Rattle.words.specs.Calls.{decodeSteps}
+use Rattle.words.proofs.Alphabet.{characters, character-at}
 use Rattle.words.proofs.Outcomes.{good-got, room-got, fills-refused, fills-done}
-use Rattle.decoding.proofs.Characters.{characters, characters-right}
 use Rattle.decoding.proofs.words_to_text.Statement.{statement}
 use Rattle.decoding.proofs.words_to_text.Tie as tie
 
@@ -34,7 +34,7 @@ put-text-requires c κs =
     let a = c .before .before .before .before .before .before .before .before .args in
     let ws = a .words .now in
     let e = sym (c .before .before .before .before .before .judge .ensures) ∙ ap answerGiven (c .before .before .before .answer .given .1) in
-    (characters-right, good-got 20 (all meaningful ws) (length (a .text .now)) (textOf ws) e, room-got 20 (all meaningful ws) (length (a .text .now)) (textOf ws) e)
+    (record { at-value = character-at }, good-got 20 (all meaningful ws) (length (a .text .now)) (textOf ws) e, room-got 20 (all meaningful ws) (length (a .text .now)) (textOf ws) e)
 
 same-length : tie.Need-same-length
 same-length c = search needs

@@ -8,8 +8,9 @@ use Rattle.format.specs.Bytes.{all}
 use Rattle.format.specs.Numbers.{numberOf, stageGiven}
 use Rattle.format.proofs.Answers.{need-inv}
 use Rattle.words.specs.Code40.{is646}
+use Rattle.words.proofs.Alphabet.{characters, characters-low}
 use Rattle.encoding.specs.Walk.{Table}
-use Rattle.encoding.proofs.Marks.{characters, unmarked, characters-low, marked-table}
+use Rattle.encoding.proofs.Marks.{unmarked, marked-table}
 use Rattle.encoding.proofs.Ways.{way-high, way-short, way-done}
 use Rattle.encoding.proofs.text_to_words.Statement.{statement}
 use Rattle.encoding.proofs.text_to_words.Tie as tie
