@@ -6,7 +6,8 @@ use crate::model::refusal::{
 };
 
 pub const USAGE: &str =
-    "usage: compare read|write|edit|to_text|to_words|histories|torn|changed|faults|taglist SEED COUNT PROGRAM [ARGUMENT ..]";
+    "usage: compare read|write|edit|to_text|to_words|histories|torn|changed|faults|taglist SEED COUNT \
+     PROGRAM [ARGUMENT ..]";
 
 #[derive(Clone, Copy, PartialEq, Eq)]
 pub enum Subject {
