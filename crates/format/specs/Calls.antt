@@ -1,4 +1,4 @@
--- The three calls: document 01, "Numbers given back". For each, its refusals in the paper's order, and its outcome: the answer, and
+-- The three calls on tags: document 01, "Numbers given back". For each, its refusals in the paper's order, and its outcome: the answer, and
 -- what every buffer holds afterwards. `p` is the page size.
 use Prim.Native.Nat.{ℕ}
 use mathlib.Core.Bool.{Bool, not, _&&_}

@@ -1,5 +1,4 @@
-// The answers of the three calls and of their stages. What each case means is said in `specs/Numbers.antt`; the refusals' numbers are the
-// paper's.
+// The answers of the calls and of their stages. What each case means is said in `specs/Numbers.antt`; the refusals' numbers are the paper's.
 ghost use mathlib.Core.Path.{_≡_};
 ghost use Rattle.format.specs.Numbers.{numberOf, answerGiven, stageGiven};
 
