@@ -41,9 +41,9 @@ fn value_at(values: &[u8; 128], text: &[u8], i: usize) -> u16
 }
 
 // A word, and the place behind its characters.
-pub struct Taken {
-    pub word: u16,
-    pub next: usize,
+struct Taken {
+    word: u16,
+    next: usize,
 }
 
 // The word that begins at `at`: up to three of the 39, or one character outside them.

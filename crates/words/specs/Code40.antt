@@ -51,8 +51,8 @@ unfoldable pub charactersAt : List ℕ → List ℕ
 charactersAt [] = []
 charactersAt (v ∷ vs) = characterOf v ∷ charactersAt vs
 
--- "Reading accepts pads only at the right of a word, never three": the characters of what is left without the pads at the right, none
--- where one of these is a pad
+-- "Reading accepts pads only at the right of a word, never three": the values' characters, but for the pads at the right; none where there
+-- is another pad, or nothing else
 unfoldable pub unpadded : List ℕ → List ℕ
 unpadded vs = if all (λ v. not (eqb v 0)) (strip vs) then charactersAt (strip vs) else []
 
