@@ -6,12 +6,14 @@ use native.Mathlib.Omega.{arith}
 use mathlib.Core.Bool.{true, false}
 use mathlib.Core.List.{List, [], _∷_, _++_}
 use lib.ListN.{length, getD}
+use borrow.Author.Tests.{eqb-false}
 use Rattle.format.specs.Answers.{Answer, Refusal, plain, got, refused}
 use Rattle.format.specs.Bytes.{all}
 use Rattle.format.proofs.Tests.{never}
-use Rattle.words.specs.Code40.{valueOf, outside, is646, charactersOf, meaningful, textOf}
+use Rattle.words.specs.Code40.{valueOf, is646, wordOf, holding, charactersOf, meaningful, textOf}
 use Rattle.words.specs.Meaning.{Means, three, two, one, held, Says, nothing, word, Ends, end, before, Laid}
 use Rattle.words.specs.Demands.{Converter, Done, LeavesAlone, Decodes, High, Encodes}
+use Rattle.words.proofs.Values.{value-small}
 use Rattle.words.proofs.Meanings.{means-read, means-meaningful}
 use Rattle.words.proofs.Promises.{not-high}
 
@@ -64,6 +66,42 @@ no-refusal r g = never (cc)
 abbrev first : List ℕ → ℕ
 first l = getD l 0 0
 
+-- ---- words that stand for nothing, by the paper's own arithmetic
+
+abbrev Unmeant : ℕ → Type 0
+Unmeant w = (p : List ℕ) → Means w p → ⊥
+
+-- what a word that stands for something is: 1 and values, the first of them no pad and no pad before another value, or FC and a character
+data Shape : ℕ → Type 0 where
+  values : (a b c : ℕ) → a < 40 → b < 40 → c < 40 → (a ≡ 0 → ⊥) → (b ≡ 0 → c ≡ 0) → Shape (wordOf a b c)
+  character : (c : ℕ) → c ≤ 0x7F → Shape (holding c)
+
+shape : {w : ℕ} {p : List ℕ} → Means w p → Shape w
+shape (three {a} {b} {c} oa ob oc) = values _ _ _ (value-small a) (value-small b) (value-small c) (eqb-false _ 0 oa) (λ e. absurd (eqb-false _ 0 ob e))
+shape (two {a} {b} oa ob) = values _ _ 0 (value-small a) (value-small b) (omega arith) (eqb-false _ 0 oa) (λ e. refl)
+shape (one {a} oa) = values _ 0 0 (value-small a) (omega arith) (omega arith) (eqb-false _ 0 oa) (λ e. refl)
+shape (held {c} h) = character c h
+
+-- three pads, A pad B, FA01, FC80
+no-three-pads : {w : ℕ} → Shape w → w ≡ 0x0001 → ⊥
+no-three-pads (values a b c ha hb hc na right) e = na (omega arith)
+no-three-pads (character c h) e = omega arith
+
+no-pad-between : {w : ℕ} → Shape w → w ≡ 0x0643 → ⊥
+no-pad-between (values a b c ha hb hc na right) e = let z : c ≡ 0 = right (omega arith) in omega arith
+no-pad-between (character c h) e = omega arith
+
+no-fa01 : {w : ℕ} → Shape w → w ≡ 0xFA01 → ⊥
+no-fa01 (values a b c ha hb hc na right) e = omega arith
+no-fa01 (character c h) e = omega arith
+
+no-fc80 : {w : ℕ} → Shape w → w ≡ 0xFC80 → ⊥
+no-fc80 (values a b c ha hb hc na right) e = omega arith
+no-fc80 (character c h) e = omega arith
+
+pub unmeant : Unmeant 0x0001 × Unmeant 0x0643 × Unmeant 0xFA01 × Unmeant 0xFC80
+unmeant = (λ p m. no-three-pads (shape m) refl, λ p m. no-pad-between (shape m) refl, λ p m. no-fa01 (shape m) refl, λ p m. no-fc80 (shape m) refl)
+
 -- ==== decoders
 
 module _ (f : Converter) (d : Decodes f) where
@@ -88,9 +126,9 @@ module _ (f : Converter) (d : Decodes f) where
       let z : _≡_ {A = ℕ} 3 1 = counts (0x0694 ∷ []) (0 ∷ 0 ∷ 0 ∷ []) 3 (d .done _ _ (0 ∷ 0 ∷ 0 ∷ []) (word (facts .means-run) nothing) (omega arith) .0) in
       omega arith
 
-  -- a word is taken that has no meaning: three pads, a pad before a character, FA01, FC80
-  pub decoder-taking : (w : ℕ) → meaningful w ≡ false → (buffer : List ℕ) (n : ℕ) → f (w ∷ []) buffer .answer ≡ got n → ⊥
-  decoder-taking w t buffer n e = no-refusal (d .no-meaning (w ∷ []) buffer .1 (0, omega arith, λ p m. never (cc (means-meaningful m)))) e
+  -- a word is taken that stands for nothing
+  pub decoder-taking : (w : ℕ) → Unmeant w → (buffer : List ℕ) (n : ℕ) → f (w ∷ []) buffer .answer ≡ got n → ⊥
+  decoder-taking w none buffer n e = no-refusal (d .no-meaning (w ∷ []) buffer .1 (0, omega arith, none)) e
 
   -- the first character is stored before all words are looked at
   pub decoder-storing-first : LeavesAlone f → ((ws buffer : List ℕ) → 0 < length buffer → first (f ws buffer .buffer) ≡ first (textOf ws)) → ⊥
