@@ -4,12 +4,11 @@ use Prim.Native.Nat.{ℕ, suc, _+_, _-_, _≤_, _<_}
 use native.Mathlib.Omega.{arith}
 use native.Mathlib.Nat.{zero-add}
 use native.Mathlib.Numerals.{add-one}
-use mathlib.Core.Bool.{Bool, true, false, _&&_}
 use mathlib.Core.List.{List, [], _∷_, _++_}
 use lib.ListN.{length, take, drop, getD, drop-of-length-le}
 use lib.Seq.{drop-cons, take-suc, take-length, length-take-le}
 use borrow.Author.Tests.{eq-eqb, ne-eqb}
-use Rattle.format.specs.Bytes.{all, trim, strip, upTo}
+use Rattle.format.specs.Bytes.{trim, strip, upTo}
 use Rattle.format.proofs.Strings.{strip-append, strip-behind, trim-other}
 
 -- ---- the first b

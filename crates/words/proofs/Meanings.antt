@@ -2,18 +2,18 @@
 use mathlib.Core.Path.{_≡_, refl, sym, ap, ap₂, _∙_, subst}
 use Prim.Native.Nat.{ℕ, _-_, _/_, _%_, _*_, _≤_, _<_}
 use native.Mathlib.Omega.{arith}
-use mathlib.Core.Bool.{Bool, true, false, not}
+use mathlib.Core.Bool.{true, false, not}
 use mathlib.Core.List.{List, [], _∷_, _++_}
 use lib.ListN.{length, length-append}
 use lib.Dec.{ltb, eqb}
 use borrow.Author.Tests.{eqb-true, eqb-false, eq-eqb, ne-eqb, ltb-true, ltb-false}
 use Rattle.format.specs.Bytes.{isEmpty, all}
 use Rattle.format.proofs.Tests.{and-l, and-r, and-i}
-use Rattle.words.specs.Code40.{valueOf, characterOf, outside, is646, wordOf, holding, unpadded, charactersOf, meaningful, textOf}
+use Rattle.words.specs.Code40.{valueOf, characterOf, outside, wordOf, holding, unpadded, charactersOf, meaningful, textOf}
 use Rattle.words.specs.Meaning.{Means, three, two, one, held, Says, nothing, word}
 use Rattle.words.proofs.Cases.{decide}
 use Rattle.words.proofs.Values.{value-back, value-small, character-back}
-use Rattle.words.proofs.Words.{one-value, two-values, three-values, characters-of-three, characters-of-one, word-back, holding-back, some, low-range, high-range, first-there, pads-right}
+use Rattle.words.proofs.Words.{one-value, two-values, three-values, characters-of-three, characters-of-one, word-back, holding-back, low-range, high-range, first-there, pads-right}
 
 -- ---- a word read
 

@@ -2,20 +2,19 @@
 -- `decoding` and `encoding` (specs/Calls.antt), the very functions that the contracts cite through `Fills`.
 use mathlib.Core.Path.{_≡_, refl, sym, ap, ap₂, _∙_}
 use mathlib.Core.Logic.{_↔_}
-use Prim.Native.Nat.{ℕ, _*_, _≤_, _<_}
+use Prim.Native.Nat.{ℕ, _*_, _≤_}
 use native.Mathlib.Omega.{arith}
 use mathlib.Core.Bool.{true, false}
 use mathlib.Core.List.{List}
-use lib.Dec.{leb}
 use lib.ListN.{length, take, drop, getD}
 use lib.Seq.{take-append-seam}
-use borrow.Author.Tests.{le-leb, lt-leb, leb-true, leb-false}
-use Rattle.format.specs.Answers.{Answer, Refusal, plain, got, refused, Step, inOrder}
+use borrow.Author.Tests.{lt-leb, leb-false}
+use Rattle.format.specs.Answers.{Answer, Refusal, plain, got, refused, Step}
 use Rattle.format.specs.Bytes.{all, filled}
-use Rattle.format.specs.Numbers.{Gives, gives, oneGives, Each, none, numberOf, resultOf}
+use Rattle.format.specs.Numbers.{Gives, gives, oneGives, Each, none, resultOf}
 use Rattle.format.specs.Demands.{Exact}
 use Rattle.format.specs.declared.NumberAnswer.{NumberAnswer}
-use Rattle.format.proofs.Answers.{next-inv, worked, afterwards-got, afterwards-refused}
+use Rattle.format.proofs.Answers.{worked, afterwards-got, afterwards-refused}
 use Rattle.format.proofs.Given.{answer-same}
 use Rattle.format.proofs.Promises.{exactly}
 use Rattle.format.proofs.Refusals.{test, listed, zero-done}
@@ -23,7 +22,7 @@ use Rattle.format.proofs.Tests.{never}
 use Rattle.words.specs.Code40.{is646, charactersOf, meaningful, textOf, wordsOf}
 use Rattle.words.specs.Meaning.{Means, Says, Laid}
 use Rattle.words.specs.Calls.{Outcome, filling, decodeSteps, decodeGives, decoding, encodeSteps, encodeGives, encoding, Fills, FillsC}
-use Rattle.words.specs.Demands.{Done, LeavesAlone, Decodes, High, Encodes, ReadsBack}
+use Rattle.words.specs.Demands.{LeavesAlone, Decodes, High, Encodes, ReadsBack}
 use Rattle.words.proofs.Cases.{decide}
 use Rattle.words.proofs.Meanings.{means-read, means-meaningful, read-means, says-meaningful, says-text, text-says, says-few}
 use Rattle.words.proofs.Runs.{laid-words, words-laid}

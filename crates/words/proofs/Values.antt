@@ -1,15 +1,13 @@
 -- The 39 characters and their values give each other back: a test that is computed over the values 0 to 39, and one over the characters 00
 -- to 7F.
-use mathlib.Core.Path.{_≡_, refl, sym, ap, _∙_}
+use mathlib.Core.Path.{_≡_, refl}
 use mathlib.Core.Logic.{⊎-elim}
-use Prim.Native.Nat.{ℕ, zero, suc, _≤_, _<_}
+use Prim.Native.Nat.{ℕ, zero, suc, _<_}
 use native.Mathlib.Nat.{not-suc-le-zero}
 use native.Mathlib.Omega.{arith}
 use mathlib.Core.Bool.{Bool, true, false, _&&_, _||_}
-use mathlib.Core.List.{List}
 use lib.Dec.{leb, ltb, eqb}
 use borrow.Author.Tests.{eqb-true, eqb-false, ne-eqb, leb-true, leb-false, ltb-true}
-use Rattle.format.specs.Bytes.{if_then_else_, between}
 use Rattle.format.proofs.Tests.{never, and-l, and-r, or-inv}
 use Rattle.words.specs.Code40.{valueOf, characterOf, outside}
 use Rattle.words.proofs.Cases.{decide, over}

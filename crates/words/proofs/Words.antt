@@ -4,11 +4,11 @@ use mathlib.Core.Path.{_≡_, refl, sym, ap, _∙_}
 use Prim.Native.Nat.{ℕ, zero, suc, _-_, _/_, _%_, _≤_, _<_}
 use native.Mathlib.Nat.{suc-ne-zero}
 use native.Mathlib.Omega.{arith}
-use mathlib.Core.Bool.{Bool, true, false, not}
+use mathlib.Core.Bool.{true, false, not}
 use mathlib.Core.List.{List, [], _∷_, _++_, append-assoc}
 use lib.Dec.{leb, eqb}
 use borrow.Author.Tests.{eqb-true, eq-eqb, ne-eqb, leb-true, leb-false}
-use Rattle.format.specs.Bytes.{if_then_else_, isEmpty, all, between, trim, strip}
+use Rattle.format.specs.Bytes.{if_then_else_, isEmpty, all, trim, strip}
 use Rattle.format.proofs.Tests.{never}
 use Rattle.words.specs.Code40.{characterOf, wordOf, holding, charactersAt, unpadded, charactersOf, meaningful, textOf}
 use Rattle.words.proofs.Cases.{decide, within, under, over}
@@ -91,9 +91,6 @@ holding-back c small =
     characters-of-one (holding c) (omega arith) (omega arith) ∙ ap (λ (x : ℕ). x ∷ []) low
 
 -- ---- a word that has a meaning
-
-pub some : (l : List ℕ) {x : ℕ} {s : List ℕ} → l ≡ x ∷ s → not (isEmpty l) ≡ true
-some l e = ap (λ (m : List ℕ). not (isEmpty m)) e
 
 pub lacking : {A : Type 0} {l : List ℕ} → l ≡ [] → not (isEmpty l) ≡ true → A
 lacking e t = let f : false ≡ true = sym (ap (λ (m : List ℕ). not (isEmpty m)) e) ∙ t in never (cc)

@@ -7,12 +7,12 @@ use mathlib.Core.Bool.{true, false}
 use mathlib.Core.List.{List, [], _∷_, _++_}
 use lib.ListN.{length, getD}
 use borrow.Author.Tests.{eqb-false}
-use Rattle.format.specs.Answers.{Answer, Refusal, plain, got, refused}
+use Rattle.format.specs.Answers.{Answer, Refusal, got, refused}
 use Rattle.format.specs.Bytes.{all}
 use Rattle.format.proofs.Tests.{never}
 use Rattle.words.specs.Code40.{valueOf, is646, wordOf, holding, charactersOf, meaningful, textOf}
-use Rattle.words.specs.Meaning.{Means, three, two, one, held, Says, nothing, word, Ends, end, before, Laid}
-use Rattle.words.specs.Demands.{Converter, Done, LeavesAlone, Decodes, High, Encodes}
+use Rattle.words.specs.Meaning.{Means, three, two, one, held, nothing, word, end, before, Laid}
+use Rattle.words.specs.Demands.{Converter, Done, LeavesAlone, Decodes, Encodes}
 use Rattle.words.proofs.Values.{value-small}
 use Rattle.words.proofs.Meanings.{means-read, means-meaningful}
 use Rattle.words.proofs.Promises.{not-high}
