@@ -100,18 +100,23 @@ static uint32_t noted(enum call call, const uint8_t *top, size_t near,
     return answer;
 }
 
+/* What each of the functions below does: the stack is painted, the call is made,
+   and how deep it went is noted. */
+#define MEASURED(call, made)                         \
+    uint8_t *top;                                    \
+    uint32_t answer;                                 \
+                                                     \
+    GET_STACK_POINTER(top);                          \
+    paint(top);                                      \
+    paint_near(top);                                 \
+    answer = made;                                   \
+    return noted(call, top, near_depth(top), answer)
+
 uint32_t stack_read(const uint8_t *tag, size_t tag_len,
                     uint8_t *sheet, size_t sheet_len,
                     size_t *used, size_t *place)
 {
-    uint8_t *top;
-    uint32_t answer;
-
-    GET_STACK_POINTER(top);
-    paint(top);
-    paint_near(top);
-    answer = urp_read(tag, tag_len, sheet, sheet_len, used, place);
-    return noted(READ, top, near_depth(top), answer);
+    MEASURED(READ, urp_read(tag, tag_len, sheet, sheet_len, used, place));
 }
 
 uint32_t stack_write(const uint8_t *sheet, size_t sheet_len,
@@ -119,15 +124,8 @@ uint32_t stack_write(const uint8_t *sheet, size_t sheet_len,
                      const uint8_t *locks, size_t locks_len,
                      size_t *pages)
 {
-    uint8_t *top;
-    uint32_t answer;
-
-    GET_STACK_POINTER(top);
-    paint(top);
-    paint_near(top);
-    answer = urp_write(sheet, sheet_len, tag, tag_len, locks, locks_len,
-                       pages);
-    return noted(WRITE, top, near_depth(top), answer);
+    MEASURED(WRITE, urp_write(sheet, sheet_len, tag, tag_len,
+                              locks, locks_len, pages));
 }
 
 uint32_t stack_edit(uint8_t *tag, size_t tag_len,
@@ -137,41 +135,23 @@ uint32_t stack_edit(uint8_t *tag, size_t tag_len,
                     uint8_t *old, size_t old_len,
                     size_t *pages, size_t *old_used, size_t *place)
 {
-    uint8_t *top;
-    uint32_t answer;
-
-    GET_STACK_POINTER(top);
-    paint(top);
-    paint_near(top);
-    answer = urp_edit(tag, tag_len, locks, locks_len, number, value, value_len,
-                      old, old_len, pages, old_used, place);
-    return noted(EDIT, top, near_depth(top), answer);
+    MEASURED(EDIT, urp_edit(tag, tag_len, locks, locks_len, number,
+                            value, value_len, old, old_len,
+                            pages, old_used, place));
 }
 
 uint32_t stack_words_to_text(const uint16_t *words, size_t words_len,
                              uint8_t *text, size_t text_len,
                              size_t *used)
 {
-    uint8_t *top;
-    uint32_t answer;
-
-    GET_STACK_POINTER(top);
-    paint(top);
-    paint_near(top);
-    answer = urp_words_to_text(words, words_len, text, text_len, used);
-    return noted(TO_TEXT, top, near_depth(top), answer);
+    MEASURED(TO_TEXT, urp_words_to_text(words, words_len, text, text_len,
+                                        used));
 }
 
 uint32_t stack_text_to_words(const uint8_t *text, size_t text_len,
                              uint16_t *words, size_t words_len,
                              size_t *used)
 {
-    uint8_t *top;
-    uint32_t answer;
-
-    GET_STACK_POINTER(top);
-    paint(top);
-    paint_near(top);
-    answer = urp_text_to_words(text, text_len, words, words_len, used);
-    return noted(TO_WORDS, top, near_depth(top), answer);
+    MEASURED(TO_WORDS, urp_text_to_words(text, text_len, words, words_len,
+                                         used));
 }

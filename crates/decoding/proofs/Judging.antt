@@ -1,25 +1,15 @@
 -- The loop that counts characters: what it knows at each turn, and how a turn keeps it.
-use mathlib.Core.Path.{_≡_, refl, sym, ap, _∙_}
+use mathlib.Core.Path.{_≡_, sym, ap, _∙_}
 use Prim.Native.Nat.{ℕ, _+_, _*_, _≤_, _<_}
 use native.Mathlib.Nat.{zero-add}
 use native.Mathlib.Omega.{arith}
-use native.Mathlib.Numerals.{add-one}
 use mathlib.Core.Bool.{true, false, not}
-use mathlib.Core.List.{List, [], _∷_, _++_}
+use mathlib.Core.List.{List, _++_}
 use lib.ListN.{length, drop, getD, length-append, drop-of-length-le}
-use lib.Seq.{drop-cons}
-use Rattle.format.specs.Bytes.{isEmpty, all}
+use Rattle.format.specs.Bytes.{all}
+use Rattle.format.proofs.Strings.{is-empty, not-empty, rest-opened}
 use Rattle.format.proofs.Passing.{Passing, passing-start, passing-on, passing-not, passing-all}
 use Rattle.words.specs.Code40.{charactersOf, meaningful, textOf}
-
--- a word has a meaning where it has characters
-some : (s : List ℕ) → (length s ≡ 0 → ⊥) → not (isEmpty s) ≡ true
-some [] h = absurd (h refl)
-some (x ∷ s) h = refl
-
-none : (s : List ℕ) → length s ≡ 0 → not (isEmpty s) ≡ false
-none [] h = refl
-none (x ∷ s) h = absurd (omega arith)
 
 -- the words before i have a meaning, and n characters; these are so few that their number fits
 pub record Judging (ws : List ℕ) (i n : ℕ) : Type 0 where
@@ -33,7 +23,7 @@ judging-start ws = record { meant = passing-start meaningful ws; few = omega ari
 -- the text of what is left
 pub text-at : (ws : List ℕ) (i : ℕ) → i < length ws → textOf (drop i ws) ≡ charactersOf (getD ws i 0) ++ textOf (drop (i + 1) ws)
 unfolding textOf
-text-at ws i h = rw (add-one, drop-cons ws i 0 h)
+text-at ws i h = ap textOf (rest-opened ws i h)
 
 -- the word at i has k characters
 module _ {ws : List ℕ} {i n k : ℕ} (j : Judging ws i n) (h : i < length ws) (e : k ≡ length (charactersOf (getD ws i 0))) where
@@ -41,13 +31,13 @@ module _ {ws : List ℕ} {i n k : ℕ} (j : Judging ws i n) (h : i < length ws) 
   judging-on small more =
       let s : List ℕ = charactersOf (getD ws i 0) in
       record {
-        meant = passing-on meaningful ws i (j .meant) h (some s (λ z. more (e ∙ z)));
+        meant = passing-on meaningful ws i (j .meant) h (ap not (not-empty s (λ z. more (e ∙ z))));
         few = omega (arith, j .few);
         counted = omega (arith, e, j .counted, ap length (text-at ws i h), length-append s (textOf (drop (i + 1) ws)));
       }
 
   pub judging-not : k ≡ 0 → all meaningful ws ≡ false
-  judging-not z = sym (passing-not meaningful ws i (j .meant) h (none (charactersOf (getD ws i 0)) (sym e ∙ z)))
+  judging-not z = sym (passing-not meaningful ws i (j .meant) h (ap not (is-empty (charactersOf (getD ws i 0)) (sym e ∙ z))))
 
 pub judging-all : {ws : List ℕ} {i n : ℕ} → Judging ws i n → length ws ≤ i → (all meaningful ws ≡ true) × (n ≡ length (textOf ws))
 unfolding textOf

@@ -7,11 +7,11 @@ use mathlib.Core.List.{List}
 use lib.ListN.{length, drop, getD, set, replicate, drop-of-length-le}
 use lib.Dec.{eqb}
 use borrow.Author.Tests.{eqb-true}
+use Rattle.format.proofs.Strings.{rest-opened}
 use Rattle.words.specs.Code40.{valueOf}
 use Rattle.words.proofs.Alphabet.{characters}
 use Rattle.words.proofs.Values.{below, below-at}
 use Rattle.encoding.specs.Walk.{marked, Table}
-use Rattle.encoding.proofs.Places.{next-at}
 
 -- the characters before i are marked, so marking the others comes to marking all
 pub record Marking (alphabet before : List ℕ) (i : ℕ) (values : List ℕ) : Type 0 where
@@ -24,7 +24,7 @@ pub marking-on : {alphabet before : List ℕ} {i : ℕ} {values : List ℕ} → 
     → Marking alphabet before (i + 1) (set values (getD alphabet i 0) (i + 1))
 unfolding marked
 marking-on {alphabet} {before} {i} {values} m h =
-    record { rest = rw (add-one (i + 1)) (sym (ap (λ (s : List ℕ). marked (i + 1) s values) (next-at alphabet i h)) ∙ m .rest) }
+    record { rest = rw (add-one (i + 1)) (sym (ap (λ (s : List ℕ). marked (i + 1) s values) (rest-opened alphabet i h)) ∙ m .rest) }
 
 pub marking-ends : {alphabet before : List ℕ} {i : ℕ} {values : List ℕ} → Marking alphabet before i values → length alphabet ≤ i
     → values ≡ marked 1 alphabet before

@@ -1,13 +1,12 @@
 -- A text at a place: what stands there, and what is left from there on.
 use mathlib.Core.Path.{_≡_, ap, _∙_}
-use Prim.Native.Nat.{ℕ, _+_, _≤_, _<_}
+use Prim.Native.Nat.{ℕ, _≤_, _<_}
 use native.Mathlib.Nat.{add-zero}
 use native.Mathlib.Omega.{arith}
-use native.Mathlib.Numerals.{add-one}
 use mathlib.Core.Bool.{true, false}
 use mathlib.Core.List.{List, [], _∷_}
 use lib.ListN.{length, drop, getD, List·getD-eq-default}
-use lib.Seq.{drop-cons, getD-drop}
+use lib.Seq.{getD-drop}
 use lib.Dec.{ltb}
 use borrow.Author.Tests.{eq-eqb, ne-eqb, ltb-true, ltb-false, leb-true}
 use Rattle.format.specs.Bytes.{all}
@@ -17,9 +16,6 @@ use Rattle.words.specs.Meaning.{Ends, end, before}
 use Rattle.words.proofs.Cases.{decide}
 use Rattle.words.proofs.Values.{value-small}
 use Rattle.encoding.specs.Walk.{Table}
-
-pub next-at : (s : List ℕ) (i : ℕ) → i < length s → drop i s ≡ getD s i 0 ∷ drop (i + 1) s
-next-at s i h = rw add-one (drop-cons s i 0 h)
 
 -- where all characters are at most 7F, so is the one at i,
 pub low-at : (s : List ℕ) (i : ℕ) → all is646 s ≡ true → i < length s → getD s i 0 < 0x80

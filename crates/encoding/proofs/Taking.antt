@@ -5,10 +5,11 @@ use native.Mathlib.Omega.{arith}
 use mathlib.Core.List.{List, _∷_}
 use lib.ListN.{length, drop, getD}
 use borrow.Author.Tests.{eq-eqb}
+use Rattle.format.proofs.Strings.{rest-opened}
 use Rattle.words.specs.Code40.{valueOf, wordOf, holding, wordsOf}
 use Rattle.words.proofs.Runs.{first-held, first-one, first-two, first-three}
 use Rattle.encoding.specs.Walk.{Takes}
-use Rattle.encoding.proofs.Places.{next-at, Valued, ends-at}
+use Rattle.encoding.proofs.Places.{Valued, ends-at}
 
 module _ (s : List ℕ) (at : ℕ) where
   -- the three characters from `at` on
@@ -27,19 +28,19 @@ module _ (s : List ℕ) (at : ℕ) where
 
   pub takes-held : at < length s → valueOf x ≡ 0 → Takes s at (holding x) (at + 1)
   takes-held h e =
-      takes (holding x) _ (at + 1) (omega arith) (omega arith) refl (ap wordsOf (next-at s at h) ∙ first-held x (drop (at + 1) s) (eq-eqb _ 0 e))
+      takes (holding x) _ (at + 1) (omega arith) (omega arith) refl (ap wordsOf (rest-opened s at h) ∙ first-held x (drop (at + 1) s) (eq-eqb _ 0 e))
 
   module _ {a : ℕ} (p : Valued s at a) where
     pub takes-one : valueOf y ≡ 0 → Takes s at (1600 * a + 1) (at + 1)
     takes-one e =
         takes (wordOf (valueOf x) 0 0) _ (at + 1) (omega arith) (omega arith) (omega arith)
-        (ap wordsOf (next-at s at (p .inside)) ∙ first-one x (p .one) (ends-at s (at + 1) e))
+        (ap wordsOf (rest-opened s at (p .inside)) ∙ first-one x (p .one) (ends-at s (at + 1) e))
 
     module _ {b : ℕ} (q : Valued s (at + 1) b) where
       two-at : drop at s ≡ x ∷ y ∷ drop (at + 2) s
       two-at =
           let there : at + 1 + 1 ≡ at + 2 = omega arith in
-          next-at s at (p .inside) ∙ ap (λ (r : List ℕ). x ∷ r) (next-at s (at + 1) (q .inside) ∙ ap (λ (n : ℕ). y ∷ drop n s) there)
+          rest-opened s at (p .inside) ∙ ap (λ (r : List ℕ). x ∷ r) (rest-opened s (at + 1) (q .inside) ∙ ap (λ (n : ℕ). y ∷ drop n s) there)
 
       pub takes-two : valueOf z ≡ 0 → Takes s at (1600 * a + 40 * b + 1) (at + 2)
       takes-two e =
@@ -50,6 +51,6 @@ module _ (s : List ℕ) (at : ℕ) where
       takes-three {c} r =
           let there : at + 2 + 1 ≡ at + 3 = omega arith in
           let three-at : drop at s ≡ x ∷ y ∷ z ∷ drop (at + 3) s =
-          two-at ∙ ap (λ (l : List ℕ). x ∷ y ∷ l) (next-at s (at + 2) (r .inside) ∙ ap (λ (n : ℕ). z ∷ drop n s) there) in
+          two-at ∙ ap (λ (l : List ℕ). x ∷ y ∷ l) (rest-opened s (at + 2) (r .inside) ∙ ap (λ (n : ℕ). z ∷ drop n s) there) in
           takes (wordOf (valueOf x) (valueOf y) (valueOf z)) _ (at + 3) (omega arith) (omega arith) (omega arith)
           (ap wordsOf three-at ∙ first-three x (p .one) y (q .one) z (r .one) (drop (at + 3) s))

@@ -2,9 +2,11 @@
 use mathlib.Core.Path.{_≡_, refl, sym, ap, ap₂, _∙_}
 use Prim.Native.Nat.{ℕ, zero, suc, _+_, _-_, _/_, _%_, _≤_, _<_}
 use native.Mathlib.Omega.{arith}
+use native.Mathlib.Numerals.{add-one}
 use mathlib.Core.Bool.{Bool, true, false, not}
 use mathlib.Core.List.{List, [], _∷_, _++_}
 use lib.ListN.{length, drop, getD, replicate, length-append, length-replicate, length-take, length-drop}
+use lib.Seq.{drop-cons}
 use lib.Dec.{eqb}
 use borrow.Author.Tests.{eqb-true, eqb-false, eq-eqb, ne-eqb}
 use Rattle.format.specs.Bytes.{if_then_else_, isEmpty, all, le16, word, part, padWith, pad, trim, strip, upTo, past}
@@ -54,6 +56,10 @@ is-empty l e = empty-length l ∙ eq-eqb (length l) 0 e
 
 pub not-empty : {A : Type 0} (l : List A) → (length l ≡ 0 → ⊥) → isEmpty l ≡ false
 not-empty l e = empty-length l ∙ ne-eqb (length l) 0 e
+
+-- what is left from byte i on: that byte, and what is left behind it
+pub rest-opened : (s : List ℕ) (i : ℕ) → i < length s → drop i s ≡ getD s i 0 ∷ drop (i + 1) s
+rest-opened s i h = rw add-one (drop-cons s i 0 h)
 
 -- where something follows k bytes, there are more than k
 pub some-behind : (k : ℕ) (s : List ℕ) → isEmpty (drop k s) ≡ false → k < length s

@@ -147,7 +147,7 @@ spoilt-first = record { parameter = facts .first-parameter; check = facts .first
 passes : (ss : List Step) → inOrder ss (tt {0}) ≡ got tt → Passed ss
 passes ss e = worked ss (tt {0}) tt e .0
 
-no-refusal : {A : Type 0} {a : Answer A} {x : Refusal} {r : A} → a ≡ refused x → a ≡ got r → ⊥
+pub no-refusal : {A : Type 0} {a : Answer A} {x : Refusal} {r : A} → a ≡ refused x → a ≡ got r → ⊥
 no-refusal e f = never (cc)
 
 -- ==== a reader, a writer or an editor that refuses all: demand 2's exact refusals

@@ -1,20 +1,15 @@
 -- Laws of loops that go over a string from its front: what is left of it at byte i gives what it gives from the start.
 use mathlib.Core.Path.{_≡_, refl, sym, ap, ap₂, _∙_}
 use Prim.Native.Nat.{ℕ, suc, _+_, _≤_, _<_}
-use native.Mathlib.Numerals.{add-one}
 use native.Mathlib.Omega.{arith}
 use mathlib.Core.Bool.{Bool, true, false, not, _&&_, _||_, and-assoc, and-true, or-false}
 use mathlib.Core.List.{List, [], _∷_}
 use lib.Dec.{eqb}
 use lib.ListN.{length, getD, drop, drop-of-length-le}
-use lib.Seq.{drop-cons}
 use Rattle.format.specs.Bytes.{all, same}
+use Rattle.format.proofs.Strings.{rest-opened}
 use Rattle.format.proofs.Tests.{and-no}
 use Rattle.pages.specs.Storing.{isOpen}
-
--- the byte at i, and what is left behind it
-pub rest-opened : (s : List ℕ) (i : ℕ) → i < length s → drop i s ≡ getD s i 0 ∷ drop (i + 1) s
-rest-opened s i h = rw add-one (drop-cons s i 0 h)
 
 -- ---- all
 

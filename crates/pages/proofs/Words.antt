@@ -9,9 +9,9 @@ use lib.ListN.{length, take, getD, length-take, length-drop}
 use borrow.Author.Tests.{eq-eqb, ne-eqb, eqb-true, eqb-false, leb-true}
 use Rattle.format.specs.Bytes.{all, same, bytes, part}
 use Rattle.format.specs.Pages.{differs}
+use Rattle.format.proofs.Strings.{rest-opened}
 use Rattle.format.proofs.Tests.{and-l, and-r, all-take, all-drop}
 use Rattle.pages.specs.Storing.{numberAt}
-use Rattle.pages.proofs.Comparing.{rest-opened}
 
 -- bytes as one number, low byte first
 unfoldable asNumber : List ℕ → ℕ

@@ -88,7 +88,7 @@ house-rule s ws = (λ l. laid-words l, λ e. rw e at (words-laid s))
 meaningless : (w : ℕ) → ((p : List ℕ) → Means w p → ⊥) → meaningful w ≡ false
 meaningless w n = decide (meaningful w) (λ t. absurd (n (charactersOf w) (read-means w t))) (λ t. t)
 
-no-meaning-of : (w : ℕ) → meaningful w ≡ false → (p : List ℕ) → Means w p → ⊥
+pub no-meaning-of : (w : ℕ) → meaningful w ≡ false → (p : List ℕ) → Means w p → ⊥
 no-meaning-of w t p m = never (cc (means-meaningful m))
 
 none-high : (s : List ℕ) → (High s → ⊥) → all is646 s ≡ true

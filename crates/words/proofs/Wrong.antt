@@ -1,21 +1,19 @@
 -- Wrong decoders and encoders, and the demand that each breaks. Nothing is said here of `decoding` or `encoding`: whatever program is of one
 -- of these kinds does not keep the demand (specs/Demands.antt), however its proof were made.
 use mathlib.Core.Path.{_≡_, refl, sym, ap, _∙_}
-use Prim.Native.Nat.{ℕ, _+_, _≤_, _<_}
+use Prim.Native.Nat.{ℕ, _≤_, _<_}
 use native.Mathlib.Omega.{arith}
-use mathlib.Core.Bool.{true, false}
+use mathlib.Core.Bool.{true}
 use mathlib.Core.List.{List, [], _∷_, _++_}
 use lib.ListN.{length, getD}
-use borrow.Author.Tests.{eqb-false}
-use Rattle.format.specs.Answers.{Answer, Refusal, got, refused}
-use Rattle.format.specs.Bytes.{all}
-use Rattle.format.proofs.Tests.{never}
-use Rattle.words.specs.Code40.{valueOf, is646, wordOf, holding, charactersOf, meaningful, textOf}
-use Rattle.words.specs.Meaning.{Means, three, two, one, held, nothing, word, end, before, Laid}
+use Rattle.format.specs.Answers.{Refusal, got, refused}
+use Rattle.format.specs.Bytes.{all, trim, strip}
+use Rattle.format.proofs.Wrong.{no-refusal}
+use Rattle.words.specs.Code40.{valueOf, is646, charactersAt, unpadded, charactersOf, textOf}
+use Rattle.words.specs.Meaning.{Means, three, one, held, Says, nothing, word, end, before, Laid}
 use Rattle.words.specs.Demands.{Converter, Done, LeavesAlone, Decodes, Encodes}
-use Rattle.words.proofs.Values.{value-small}
-use Rattle.words.proofs.Meanings.{means-read, means-meaningful}
-use Rattle.words.proofs.Promises.{not-high}
+use Rattle.words.proofs.Meanings.{means-read}
+use Rattle.words.proofs.Promises.{no-meaning-of, not-high}
 
 -- ---- what the kinds are told by: A, B, a, ABC and A/B, and their words
 
@@ -43,10 +41,9 @@ record Facts : Type 0 where
   laid-run : Laid run (0x0694 ∷ [])
   laid-across : Laid across (0x0641 ∷ 0xFC2F ∷ 0x0C81 ∷ [])
   low : (all is646 letter ≡ true) × (all is646 small ≡ true) × (all is646 run ≡ true) × (all is646 across ≡ true)
-  zero-meaningless : meaningful 0 ≡ false
 
 facts : Facts
-unfolding valueOf all charactersOf
+unfolding valueOf all
 facts = record {
   means-letter = one refl;
   means-other = one refl;
@@ -56,51 +53,20 @@ facts = record {
   laid-run = three refl refl refl nothing;
   laid-across = one refl (before refl) (held refl (one refl end nothing));
   low = (refl, refl, refl, refl);
-  zero-meaningless = refl;
 }
-
-no-refusal : {A : Type 0} {n : ℕ} {x : Refusal} {a : Answer ℕ} → a ≡ refused x → a ≡ got n → A
-no-refusal r g = never (cc)
 
 -- the first of a buffer
 abbrev first : List ℕ → ℕ
 first l = getD l 0 0
 
--- ---- words that stand for nothing, by the paper's own arithmetic
+-- ---- words that stand for nothing: three pads, A pad B, FA01, FC80; and 0
 
 abbrev Unmeant : ℕ → Type 0
 Unmeant w = (p : List ℕ) → Means w p → ⊥
 
--- what a word that stands for something is: 1 and values, the first of them no pad and no pad before another value, or FC and a character
-data Shape : ℕ → Type 0 where
-  values : (a b c : ℕ) → a < 40 → b < 40 → c < 40 → (a ≡ 0 → ⊥) → (b ≡ 0 → c ≡ 0) → Shape (wordOf a b c)
-  character : (c : ℕ) → c ≤ 0x7F → Shape (holding c)
-
-shape : {w : ℕ} {p : List ℕ} → Means w p → Shape w
-shape (three {a} {b} {c} oa ob oc) = values _ _ _ (value-small a) (value-small b) (value-small c) (eqb-false _ 0 oa) (λ e. absurd (eqb-false _ 0 ob e))
-shape (two {a} {b} oa ob) = values _ _ 0 (value-small a) (value-small b) (omega arith) (eqb-false _ 0 oa) (λ e. refl)
-shape (one {a} oa) = values _ 0 0 (value-small a) (omega arith) (omega arith) (eqb-false _ 0 oa) (λ e. refl)
-shape (held {c} h) = character c h
-
--- three pads, A pad B, FA01, FC80
-no-three-pads : {w : ℕ} → Shape w → w ≡ 0x0001 → ⊥
-no-three-pads (values a b c ha hb hc na right) e = na (omega arith)
-no-three-pads (character c h) e = omega arith
-
-no-pad-between : {w : ℕ} → Shape w → w ≡ 0x0643 → ⊥
-no-pad-between (values a b c ha hb hc na right) e = let z : c ≡ 0 = right (omega arith) in omega arith
-no-pad-between (character c h) e = omega arith
-
-no-fa01 : {w : ℕ} → Shape w → w ≡ 0xFA01 → ⊥
-no-fa01 (values a b c ha hb hc na right) e = omega arith
-no-fa01 (character c h) e = omega arith
-
-no-fc80 : {w : ℕ} → Shape w → w ≡ 0xFC80 → ⊥
-no-fc80 (values a b c ha hb hc na right) e = omega arith
-no-fc80 (character c h) e = omega arith
-
-pub unmeant : Unmeant 0x0001 × Unmeant 0x0643 × Unmeant 0xFA01 × Unmeant 0xFC80
-unmeant = (λ p m. no-three-pads (shape m) refl, λ p m. no-pad-between (shape m) refl, λ p m. no-fa01 (shape m) refl, λ p m. no-fc80 (shape m) refl)
+pub unmeant : Unmeant 0x0001 × Unmeant 0x0643 × Unmeant 0xFA01 × Unmeant 0xFC80 × Unmeant 0
+unfolding charactersOf unpadded charactersAt all strip trim
+unmeant = (no-meaning-of 0x0001 refl, no-meaning-of 0x0643 refl, no-meaning-of 0xFA01 refl, no-meaning-of 0xFC80 refl, no-meaning-of 0 refl)
 
 -- ==== decoders
 
@@ -128,19 +94,29 @@ module _ (f : Converter) (d : Decodes f) where
 
   -- a word is taken that stands for nothing
   pub decoder-taking : (w : ℕ) → Unmeant w → (buffer : List ℕ) (n : ℕ) → f (w ∷ []) buffer .answer ≡ got n → ⊥
-  decoder-taking w none buffer n e = no-refusal (d .no-meaning (w ∷ []) buffer .1 (0, omega arith, none)) e
+  decoder-taking w unmeant-w buffer n e = no-refusal (d .no-meaning (w ∷ []) buffer .1 (0, omega arith, unmeant-w)) e
 
   -- the first character is stored before all words are looked at
   pub decoder-storing-first : LeavesAlone f → ((ws buffer : List ℕ) → 0 < length buffer → first (f ws buffer .buffer) ≡ first (textOf ws)) → ⊥
   unfolding textOf
   decoder-storing-first alone stores =
       let ws : List ℕ = 0x0641 ∷ 0 ∷ [] in
-      let r = d .no-meaning ws (0 ∷ []) .1 (1, omega arith, λ p m. never (cc (means-meaningful m, facts .zero-meaningless))) in
+      let r = d .no-meaning ws (0 ∷ []) .1 (1, omega arith, unmeant .4) in
       let z : _≡_ {A = ℕ} 0 0x41 =
       ap first (sym (alone ws (0 ∷ []) _ r)) ∙ stores ws (0 ∷ []) (omega arith) ∙ ap (λ (l : List ℕ). first (l ++ (charactersOf 0 ++ []))) (means-read (facts .means-letter)) in
       omega arith
 
 -- ==== encoders
+
+-- Words that each stand for one character say the text too: so reading back by itself would let pass an encoder that writes an FC word, or any
+-- word of its own, for every character.
+pub data Single : List ℕ → List ℕ → Type 0 where
+  none : Single [] []
+  more : {c w : ℕ} {s ws : List ℕ} → Means w (c ∷ []) → Single s ws → Single (c ∷ s) (w ∷ ws)
+
+pub single-says : {s ws : List ℕ} → Single s ws → Says ws s
+single-says none = nothing
+single-says (more m r) = word m (single-says r)
 
 module _ (f : Converter) (d : Encodes f) where
   lays-letter : Done (f letter (0 ∷ [])) (0x0641 ∷ []) (0 ∷ [])
@@ -158,13 +134,13 @@ module _ (f : Converter) (d : Encodes f) where
   pub encoder-refusing-all : ((s buffer : List ℕ) → (x : Refusal) × (f s buffer .answer ≡ refused x)) → ⊥
   encoder-refusing-all refuses = no-refusal (refuses letter (0 ∷ []) .1) (lays-letter .0)
 
-  -- an FC word for every character: it reads back all the same
+  -- an FC word for every character
   pub encoder-holding-all : ((s buffer : List ℕ) (n : ℕ) → f s buffer .answer ≡ got n → 0 < n → 0xFC00 ≤ first (f s buffer .buffer)) → ⊥
   encoder-holding-all holds =
       let z : 0xFC00 ≤ first (f letter (0 ∷ []) .buffer) = holds letter (0 ∷ []) 1 (lays-letter .0) (omega arith) in
       omega (arith, ap first (lays-letter .1))
 
-  -- a word for every character: it reads back too
+  -- a word for every character
   pub encoder-of-ones : ((s buffer : List ℕ) (n : ℕ) → f s buffer .answer ≡ got n → n ≡ length s) → ⊥
   encoder-of-ones counts = let z : _≡_ {A = ℕ} 1 3 = counts run (0 ∷ 0 ∷ 0 ∷ []) 1 (lays-run .0) in omega arith
 
