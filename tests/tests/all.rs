@@ -13,5 +13,6 @@ mod readings_33_to_39;
 mod refusals;
 mod requests_e01;
 mod requests_e02;
+mod requests_e03;
 mod round_trips;
 mod slips;

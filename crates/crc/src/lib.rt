@@ -1,334 +1,57 @@
-// The CRC of a tag's basic block, by a table of 256 remainders.
+// The CRC of a tag's basic block, bit by bit. The register stands in the upper half of 32 bits: what goes out of it is gone, and nothing has to be cut back.
 ghost use mathlib.Core.Path.{_≡_};
-ghost use Prim.Native.Nat.{_-_};
-ghost use lib.ListN.{replicate};
-ghost use Rattle.crc.specs.Table.{Remainders};
-ghost use Rattle.format.specs.Crc.{crcByte, crcFrom, crc, covered};
+ghost use Prim.Native.Nat.{min};
+ghost use Rattle.crc.specs.Register.{Becomes};
+ghost use Rattle.format.specs.Crc.{crcBit, crcByte, crcFrom, crc, covered};
 
-// The register at the start.
-const START: u16 = 0xFFFF;
+// The register at the start, and the polynomial, in the upper half.
+const START: u32 = 0xFFFF_0000;
 
-// Entry k is the remainder of byte k: what the byte leaves in an empty register.
-const TABLE: [u16; 256] = [
-    0x0000,
-    0x1021,
-    0x2042,
-    0x3063,
-    0x4084,
-    0x50A5,
-    0x60C6,
-    0x70E7,
-    0x8108,
-    0x9129,
-    0xA14A,
-    0xB16B,
-    0xC18C,
-    0xD1AD,
-    0xE1CE,
-    0xF1EF,
-    0x1231,
-    0x0210,
-    0x3273,
-    0x2252,
-    0x52B5,
-    0x4294,
-    0x72F7,
-    0x62D6,
-    0x9339,
-    0x8318,
-    0xB37B,
-    0xA35A,
-    0xD3BD,
-    0xC39C,
-    0xF3FF,
-    0xE3DE,
-    0x2462,
-    0x3443,
-    0x0420,
-    0x1401,
-    0x64E6,
-    0x74C7,
-    0x44A4,
-    0x5485,
-    0xA56A,
-    0xB54B,
-    0x8528,
-    0x9509,
-    0xE5EE,
-    0xF5CF,
-    0xC5AC,
-    0xD58D,
-    0x3653,
-    0x2672,
-    0x1611,
-    0x0630,
-    0x76D7,
-    0x66F6,
-    0x5695,
-    0x46B4,
-    0xB75B,
-    0xA77A,
-    0x9719,
-    0x8738,
-    0xF7DF,
-    0xE7FE,
-    0xD79D,
-    0xC7BC,
-    0x48C4,
-    0x58E5,
-    0x6886,
-    0x78A7,
-    0x0840,
-    0x1861,
-    0x2802,
-    0x3823,
-    0xC9CC,
-    0xD9ED,
-    0xE98E,
-    0xF9AF,
-    0x8948,
-    0x9969,
-    0xA90A,
-    0xB92B,
-    0x5AF5,
-    0x4AD4,
-    0x7AB7,
-    0x6A96,
-    0x1A71,
-    0x0A50,
-    0x3A33,
-    0x2A12,
-    0xDBFD,
-    0xCBDC,
-    0xFBBF,
-    0xEB9E,
-    0x9B79,
-    0x8B58,
-    0xBB3B,
-    0xAB1A,
-    0x6CA6,
-    0x7C87,
-    0x4CE4,
-    0x5CC5,
-    0x2C22,
-    0x3C03,
-    0x0C60,
-    0x1C41,
-    0xEDAE,
-    0xFD8F,
-    0xCDEC,
-    0xDDCD,
-    0xAD2A,
-    0xBD0B,
-    0x8D68,
-    0x9D49,
-    0x7E97,
-    0x6EB6,
-    0x5ED5,
-    0x4EF4,
-    0x3E13,
-    0x2E32,
-    0x1E51,
-    0x0E70,
-    0xFF9F,
-    0xEFBE,
-    0xDFDD,
-    0xCFFC,
-    0xBF1B,
-    0xAF3A,
-    0x9F59,
-    0x8F78,
-    0x9188,
-    0x81A9,
-    0xB1CA,
-    0xA1EB,
-    0xD10C,
-    0xC12D,
-    0xF14E,
-    0xE16F,
-    0x1080,
-    0x00A1,
-    0x30C2,
-    0x20E3,
-    0x5004,
-    0x4025,
-    0x7046,
-    0x6067,
-    0x83B9,
-    0x9398,
-    0xA3FB,
-    0xB3DA,
-    0xC33D,
-    0xD31C,
-    0xE37F,
-    0xF35E,
-    0x02B1,
-    0x1290,
-    0x22F3,
-    0x32D2,
-    0x4235,
-    0x5214,
-    0x6277,
-    0x7256,
-    0xB5EA,
-    0xA5CB,
-    0x95A8,
-    0x8589,
-    0xF56E,
-    0xE54F,
-    0xD52C,
-    0xC50D,
-    0x34E2,
-    0x24C3,
-    0x14A0,
-    0x0481,
-    0x7466,
-    0x6447,
-    0x5424,
-    0x4405,
-    0xA7DB,
-    0xB7FA,
-    0x8799,
-    0x97B8,
-    0xE75F,
-    0xF77E,
-    0xC71D,
-    0xD73C,
-    0x26D3,
-    0x36F2,
-    0x0691,
-    0x16B0,
-    0x6657,
-    0x7676,
-    0x4615,
-    0x5634,
-    0xD94C,
-    0xC96D,
-    0xF90E,
-    0xE92F,
-    0x99C8,
-    0x89E9,
-    0xB98A,
-    0xA9AB,
-    0x5844,
-    0x4865,
-    0x7806,
-    0x6827,
-    0x18C0,
-    0x08E1,
-    0x3882,
-    0x28A3,
-    0xCB7D,
-    0xDB5C,
-    0xEB3F,
-    0xFB1E,
-    0x8BF9,
-    0x9BD8,
-    0xABBB,
-    0xBB9A,
-    0x4A75,
-    0x5A54,
-    0x6A37,
-    0x7A16,
-    0x0AF1,
-    0x1AD0,
-    0x2AB3,
-    0x3A92,
-    0xFD2E,
-    0xED0F,
-    0xDD6C,
-    0xCD4D,
-    0xBDAA,
-    0xAD8B,
-    0x9DE8,
-    0x8DC9,
-    0x7C26,
-    0x6C07,
-    0x5C64,
-    0x4C45,
-    0x3CA2,
-    0x2C83,
-    0x1CE0,
-    0x0CC1,
-    0xEF1F,
-    0xFF3E,
-    0xCF5D,
-    0xDF7C,
-    0xAF9B,
-    0xBFBA,
-    0x8FD9,
-    0x9FF8,
-    0x6E17,
-    0x7E36,
-    0x4E55,
-    0x5E74,
-    0x2E93,
-    0x3EB2,
-    0x0ED1,
-    0x1EF0,
-];
+const POLYNOMIAL: u32 = 0x1021_0000;
 
-// The register after one more byte, which meets its high byte: one lookup.
-fn step(table: &[u16; 256], crc: u16, byte: u8) -> u16
-    requires { ⌜ Remainders (now table) ⌝ }
-    ensures { λ r. ⌜ r ≡ crcByte crc byte ⌝ }
+// The register one bit on: the polynomial comes in where a bit goes out.
+fn bit(register: u32) -> u32
+    ensures { λ r. ⌜ Becomes register crcBit r ⌝ }
 {
-    let met = crc ^ ((byte as u16) << 8);
-    (met << 8) ^ table[(met >> 8) as usize]
+    (register << 1) ^ ((register >> 31) * POLYNOMIAL)
+}
+
+// The register after one more byte, which meets its high end. Of a loop over the eight bits the compiler would make a table.
+fn step(register: u32, byte: u8) -> u32
+    ensures { λ r. ⌜ Becomes register (λ x. crcByte x byte) r ⌝ }
+{
+    let met = register ^ ((byte as u32) << 24);
+    bit(bit(bit(bit(bit(bit(bit(bit(met))))))))
 }
 
 // The register after these bytes.
-fn run(table: &[u16; 256], crc: u16, bytes: &[u8]) -> u16
-    requires { ⌜ Remainders (now table) ⌝ }
-    ensures { λ r. ⌜ r ≡ crcFrom crc (now (bytes .entry)) ⌝ }
+fn run(register: u32, bytes: &[u8]) -> u32
+    ensures { λ r. ⌜ Becomes register (λ x. crcFrom x (now (bytes .entry))) r ⌝ }
 {
-    let mut after = crc;
+    let mut after = register;
     let mut i = 0;
     while i < bytes.len() {
-        after = step(table, after, bytes[i]);
+        after = step(after, bytes[i]);
         i += 1;
     }
     after
 }
 
-// The register after a 00 for each place from `from` to before `to`.
-fn zeros(table: &[u16; 256], crc: u16, from: usize, to: usize) -> u16
-    requires { ⌜ Remainders (now table) ⌝ }
-    ensures { λ r. ⌜ r ≡ crcFrom crc (replicate (to - from) 0) ⌝ }
+// The lesser of two numbers.
+fn least(a: usize, b: usize) -> usize
+    ensures { λ r. ⌜ r ≡ min a b ⌝ }
 {
-    let mut after = crc;
-    let mut i = from;
-    while i < to {
-        after = step(table, after, 0);
-        i += 1;
-    }
-    after
-}
-
-// The CRC of a tag's basic block, by a table that is lent once: a constant array is laid out anew wherever it is named.
-fn by_table(table: &[u16; 256], tag: &[u8]) -> u16
-    requires { ⌜ Remainders (now table) ⌝ }
-    ensures { λ r. ⌜ r ≡ crc (covered (now (tag .entry))) ⌝ }
-{
-    let n = tag.len();
-    if n < 19 {
-        let front = run(table, START, tag);
-        return zeros(table, front, 21, 34);
-    }
-    let front = run(table, START, &tag[0..19]);
-    if n < 21 {
-        return zeros(table, front, 21, 34);
-    }
-    if n < 34 {
-        let owner = run(table, front, &tag[21..n]);
-        return zeros(table, owner, n, 34);
-    }
-    run(table, front, &tag[21..34])
+    if a < b { a } else { b }
 }
 
 // The CRC of a tag's basic block: of bytes 0 to 18 and then 21 to 33, of which those that the tag lacks count as 00.
 pub fn of_tag(tag: &[u8]) -> u16
     ensures { λ r. ⌜ r ≡ crc (covered (now (tag .entry))) ⌝ }
 {
-    by_table(&TABLE, tag)
+    let n = tag.len();
+    let from = least(21, n);
+    let mut owner: [u8; 13] = [0; 13];
+    bytes::copy(&tag[from..least(34, n)], &mut owner);
+    let front = run(START, &tag[0..least(19, n)]);
+    (run(front, &owner) >> 16) as u16
 }

@@ -1,14 +1,15 @@
 -- Exclusive or: it may be regrouped, and what goes in twice goes out.
 use mathlib.Core.Path.{_≡_, refl, sym, ap, ap₂, _∙_}
-use Prim.Native.Nat.{ℕ, zero, suc, _+_, _*_, _/_, _%_, _≤_, _<_}
-use native.Mathlib.Nat.{mod-lt, zero-lt-suc}
+use Prim.Native.Nat.{ℕ, zero, suc, _+_, _*_, _/_, _%_, _^_, _≤_, _<_}
+use native.Mathlib.Nat.{add-zero, mod-lt, zero-lt-suc}
 use native.Mathlib.Omega.{arith}
 use native.Mathlib.Numerals.{add-one}
 use mathlib.Core.List.{List, [], _∷_, _++_}
 use lib.Arith.{bin-ind}
 use lib.ListN.{length, drop, getD, drop-of-length-le}
 use lib.Seq.{drop-cons}
-use lib.Bits.{bitXor, xor-step, xor-comm, xor-self, xor-zero-r, differ}
+use lib.Bits.{bitXor, xor-step, xor-comm, xor-self, xor-zero-r, xor-block, differ}
+use lib.Pow.{pow-pos}
 use Rattle.format.specs.Bytes.{xorAll}
 
 differ-assoc : (x y z : ℕ) → x < 2 → y < 2 → z < 2 → differ (differ x y) z ≡ differ x (differ y z)
@@ -50,6 +51,10 @@ xor-swap a b c d =
     xor-assoc a b (bitXor c d)
     ∙ ap (bitXor a) (sym (xor-assoc b c d) ∙ ap (λ (x : ℕ). bitXor x d) (xor-comm b c) ∙ xor-assoc c b d)
     ∙ sym (xor-assoc a c (bitXor b d))
+
+-- both moved up by k bits
+pub xor-up : (k x y : ℕ) → bitXor x y * 2 ^ k ≡ bitXor (x * 2 ^ k) (y * 2 ^ k)
+xor-up k x y = sym (simp add-zero at (xor-block k x y 0 0 (pow-pos k) (pow-pos k)))
 
 -- ---- of a string
 

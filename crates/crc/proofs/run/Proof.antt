@@ -1,5 +1,5 @@
--- `crc::run`: the register so far, over the bytes that are left, gives what all of them give.
-use mathlib.Core.Path.{_≡_, refl, sym, ap, _∙_}
+-- `crc::run`: what the bytes that are left make of the register so far is what all of them make of the one at the start.
+use mathlib.Core.Path.{_≡_, sym, ap, _∙_}
 use mathlib.Core.List.{List}
 use Prim.Native.Nat.{ℕ, _+_, _-_, _≤_, _<_}
 use native.Mathlib.Numerals.{add-one}
@@ -7,23 +7,28 @@ use borrow.Author.Needs.{needs}
 use lib.ListN.{length, drop, getD, drop-of-length-le}
 use lib.Seq.{drop-cons}
 use Rattle.format.specs.Crc.{crcByte, crcFrom}
+use Rattle.crc.specs.Register.{upper, Becomes}
 use Rattle.crc.proofs.run.Statement.{statement}
 use Rattle.crc.proofs.run.Tie as tie
 
+-- r is what the bytes from place i on make of the register `after`
+abbrev Left : List ℕ → ℕ → ℕ → ℕ → Type 0
+Left bytes i after r = Becomes after (λ x. crcFrom x (drop i bytes)) r
+
 abbrev Inv-loop : tie.InvT-loop
-Inv-loop table crc bytes after₀ i₀ after i = (i ≤ length bytes) × (crcFrom after (drop i bytes) ≡ crcFrom crc bytes)
+Inv-loop register bytes after₀ i₀ after i = (i ≤ length bytes) × ((r : ℕ) → Left bytes i after r → Left bytes 0 register r)
 
 abbrev μ-loop : tie.MeasureT-loop
-μ-loop table crc bytes after₀ i₀ after i = length bytes - i
+μ-loop register bytes after₀ i₀ after i = length bytes - i
 
 -- one byte more
-stepped : (after next last : ℕ) (bytes : List ℕ) (i : ℕ) → i < length bytes → next ≡ crcByte after (getD bytes i 0)
-    → crcFrom after (drop i bytes) ≡ last → crcFrom next (drop (i + 1) bytes) ≡ last
+stepped : (bytes : List ℕ) (i after next r : ℕ) → i < length bytes → Becomes after (λ x. crcByte x (getD bytes i 0)) next
+    → Left bytes (i + 1) next r → Left bytes i after r
 unfolding crcFrom
-stepped after next last bytes i h e inv = rw (add-one, e) (sym (ap (crcFrom after) (drop-cons bytes i 0 h)) ∙ inv)
+stepped bytes i after next r h e rest x s = rest _ (e x s) ∙ rw (add-one, drop-cons bytes i 0 h)
 
 loop-holds : tie.Need-loop-holds Inv-loop μ-loop
-loop-holds c = (search needs, refl)
+loop-holds c = (search needs, λ r e. e)
 
 shared-slice-read-step : tie.Need-shared-slice-read-step Inv-loop μ-loop
 shared-slice-read-step c = search needs
@@ -40,13 +45,14 @@ loop-less c = search needs
 loop-again : tie.Need-loop-again Inv-loop μ-loop
 loop-again c =
     let l = c .before .before .before .loop in
-    (search needs, stepped (l .after) (c .step .result) _ _ (l .i) (c .before .before .loop-test .taken) (c .step .ensures) (l .inv .1))
+    (search needs, λ r rest. l .inv .1 r (stepped _ (l .i) (l .after) (c .step .result) r (c .before .before .loop-test .taken) (c .step .ensures) rest))
 
 returns : tie.Need-returns Inv-loop μ-loop
 unfolding crcFrom
 returns c =
     let l = c .before .loop in
-    sym (ap (crcFrom (l .after)) (drop-of-length-le (c .before .before .before .args .bytes .now) (c .loop-test .left))) ∙ l .inv .1
+    let none = drop-of-length-le (c .before .before .before .args .bytes .now) (c .loop-test .left) in
+    l .inv .1 (l .after) (λ x e. rw none e)
 
 pub run-spec : {M : Type 1} → statement M
 run-spec =

@@ -1,43 +1,35 @@
--- `crc::step`: what stands where the lookup goes is the high byte's remainder.
-use mathlib.Core.Path.{_≡_, sym, ap, _∙_}
-use mathlib.Core.List.{List}
-use Prim.Native.Nat.{ℕ, _*_, _/_, _%_, _<_}
+-- `crc::step`: the byte meets the register's high end, and eight bits go on.
+use mathlib.Core.Path.{_≡_, sym, ap₂, _∙_}
+use Prim.Native.Nat.{ℕ, _*_, _%_, _<_}
 use native.Mathlib.Omega.{arith}
-use lib.ListN.{getD}
+use borrow.Author.Needs.{needs}
 use lib.Bits.{bitXor}
-use Rattle.format.specs.Crc.{crcByte}
-use Rattle.format.proofs.Crc.{met-lt, byte-by-table}
-use Rattle.crc.specs.Table.{Remainders}
+use Rattle.format.specs.Crc.{crcBits, crcByte}
+use Rattle.format.proofs.Xor.{xor-up}
+use Rattle.crc.specs.Register.{upper, Becomes}
 use Rattle.crc.proofs.step.Statement.{statement}
 use Rattle.crc.proofs.step.Tie as tie
 
--- (m is the byte shifted up in sixteen bits)
-place : (r b m : ℕ) → r < 65536 → b < 256 → m ≡ b * 256 → bitXor r m / 256 < 256
-place r b m hr hb e = rw e (omega (arith, met-lt r b hr hb))
-
-looked-up : (table : List ℕ) (r b m : ℕ) → Remainders table → r < 65536 → b < 256 → m ≡ b * 256
-    → bitXor (bitXor r m * 256 % 65536) (getD table (bitXor r m / 256) 0) ≡ crcByte r b
-looked-up table r b m t hr hb e =
-    ap (bitXor (bitXor r m * 256 % 65536)) (t .entry (bitXor r m / 256) (place r b m hr hb e))
-    ∙ rw e (sym (byte-by-table r b hr hb))
-
-shifted : (c : tie.Start) → c .args .byte * 256 % 65536 ≡ c .args .byte * 256
-shifted c = omega arith
-
-index : (c : tie.Start) → bitXor (c .args .crc) (c .args .byte * 256 % 65536) / 256 < 256
-index c = place _ _ _ (c .fits .crc .fits) (c .fits .byte .fits) (shifted c)
-
-cast-result : tie.Need-cast-result
-cast-result c = omega (arith, index c)
-
-mul-result : tie.Need-mul-result
-mul-result c = omega (arith, index c)
-
-element-copy-out-result : tie.Need-element-copy-out-result
-element-copy-out-result c = index c
+met : (r b : ℕ) → b < 256 → Becomes r (λ x. bitXor x (b * 256)) (bitXor r (b * 16777216 % 4294967296))
+met r b h x e =
+    let up : b * 16777216 % 4294967296 ≡ upper (b * 256) = omega arith in
+    ap₂ bitXor e up ∙ sym (xor-up 16 x (b * 256))
 
 returns : tie.Need-returns
-returns c = let s = c .before in looked-up _ _ _ _ (s .pre) (s .fits .crc .fits) (s .fits .byte .fits) (shifted s)
+unfolding crcByte crcBits
+returns c x e =
+    let c7 = c .before in
+    let c6 = c7 .before in
+    let c5 = c6 .before in
+    let c4 = c5 .before in
+    let c3 = c4 .before in
+    let c2 = c3 .before in
+    let c1 = c2 .before in
+    let one = c1 .bit .ensures _ (met _ _ (c1 .before .fits .byte .fits) x e) in
+    let four = c4 .bit4 .ensures _ (c3 .bit3 .ensures _ (c2 .bit2 .ensures _ one)) in
+    c .bit8 .ensures _ (c7 .bit7 .ensures _ (c6 .bit6 .ensures _ (c5 .bit5 .ensures _ four)))
 
 pub step-spec : {M : Type 1} → statement M
-step-spec = tie.close (tie.spec cast-result mul-result element-copy-out-result returns)
+step-spec =
+    tie.close
+    (tie.spec (λ c κs. search needs) (λ c κs. search needs) (λ c κs. search needs) (λ c κs. search needs) (λ c κs. search needs) (λ c κs. search needs) (λ c κs. search needs) (λ c κs. search needs) returns)
