@@ -1,4 +1,5 @@
--- The CRC's register: its step is linear. Nothing here depends on which polynomial it is, but that it fits sixteen bits.
+-- The CRC's register. Its step is linear, which a later request needs (E11, how much damage is caught). Nothing here depends on which polynomial it
+-- is, but that it fits sixteen bits.
 use mathlib.Core.Path.{_≡_, refl, sym, ap, ap₂, _∙_}
 use Prim.Native.Nat.{ℕ, zero, suc, _*_, _/_, _%_, _<_}
 use native.Mathlib.Nat.{mod-lt, zero-lt-suc}
@@ -14,7 +15,7 @@ use Rattle.format.proofs.Xor.{xor-swap, xor-up}
 
 -- ---- one bit
 
--- what comes in where the bit b goes out
+-- what comes in where the bit b goes out, b * polynomial, is linear too
 brought-lt : (b : ℕ) → b < 2 → b * polynomial < 65536
 brought-lt b h = omega arith
 

@@ -1,5 +1,5 @@
 -- `crc::run`: what the bytes that are left make of the register so far is what all of them make of the one at the start.
-use mathlib.Core.Path.{_≡_, sym, ap, _∙_}
+use mathlib.Core.Path.{_∙_}
 use mathlib.Core.List.{List}
 use Prim.Native.Nat.{ℕ, _+_, _-_, _≤_, _<_}
 use native.Mathlib.Numerals.{add-one}
@@ -7,7 +7,7 @@ use borrow.Author.Needs.{needs}
 use lib.ListN.{length, drop, getD, drop-of-length-le}
 use lib.Seq.{drop-cons}
 use Rattle.format.specs.Crc.{crcByte, crcFrom}
-use Rattle.crc.specs.Register.{upper, Becomes}
+use Rattle.crc.specs.Register.{Becomes}
 use Rattle.crc.proofs.run.Statement.{statement}
 use Rattle.crc.proofs.run.Tie as tie
 
