@@ -5,8 +5,8 @@
     python3 tests/flash.py --under BYTES FILE   that no table is among its constants
 
 A table need not be one object: a compiler may cut it into constants of 16 bytes and lay it out again on the stack. So the constants are counted by
-function: all that one function refers to has fewer than BYTES together, and so has every object with a name. Data that can be written counts as
-constants do, since its first values lie in the flash. Answers 1 where that is not so.
+function too: each object has fewer than BYTES, and so have all together that one function refers to. Data that can be written counts as constants do,
+since its first values lie in the flash. Answers 1 where that is not so.
 """
 import collections
 import pathlib
@@ -47,6 +47,7 @@ class Section(collections.namedtuple("Section", "name kind flags size")):
         return self.part() in ("constants", "data")
 
 
+Head = collections.namedtuple("Head", "name kind flags address offset size link info alignment entry")
 Symbol = collections.namedtuple("Symbol", "name kind section at size")
 
 
@@ -57,37 +58,38 @@ class Elf:
         if data[:6] != b"\x7fELF\x02\x01" or struct.unpack_from("<H", data, 18)[0] != 62:
             fail(f"{file} has something that is no x86-64 object")
         first, = struct.unpack_from("<Q", data, 40)
-        size, count, names = struct.unpack_from("<HHH", data, 58)
-        heads = [struct.unpack_from("<IIQQQQIIQQ", data, first + size * i) for i in range(count)]
+        length, count, names = struct.unpack_from("<HHH", data, 58)
+        heads = [Head(*struct.unpack_from("<IIQQQQIIQQ", data, first + length * i)) for i in range(count)]
 
         def content(head):
-            return data[head[4]:head[4] + head[5]]
+            return data[head.offset:head.offset + head.size]
 
-        table = content(heads[names])
-        self.sections = [Section(text(table, head[0]), head[1], head[2], head[5]) for head in heads]
+        self.sections = [Section(text(content(heads[names]), head.name), head.kind, head.flags, head.size) for head in heads]
         self.symbols, self.references = [], []
         for head in heads:
-            if head[1] == SYMTAB:
-                strings = content(heads[head[6]])
-                for name, info, _, section, at, length in struct.iter_unpack("<IBBHQQ", content(head)):
-                    self.symbols.append(Symbol(text(strings, name), info & 15, section, at, length))
+            if head.kind == SYMTAB:
+                strings = content(heads[head.link])
+                for name, kind, _, section, at, size_of in struct.iter_unpack("<IBBHQQ", content(head)):
+                    self.symbols.append(Symbol(text(strings, name), kind & 15, section, at, size_of))
         for head in heads:
-            if head[1] == RELA:
-                for at, info, more in struct.iter_unpack("<QQq", content(head)):
-                    offset = more + 4 if info & 0xFFFFFFFF in RELATIVE else more
-                    self.references.append((head[7], at, self.symbols[info >> 32], offset))
+            if head.kind == RELA:
+                for at, kind, offset in struct.iter_unpack("<QQq", content(head)):
+                    behind = 4 if kind & 0xFFFFFFFF in RELATIVE else 0
+                    self.references.append((head.info, at, self.symbols[kind >> 32], offset + behind))
 
     def in_flash(self, symbol):
         return 0 < symbol.section < len(self.sections) and self.sections[symbol.section].is_held()
 
     def pieces(self):
-        """The constants as (section, begin, end): what lies between two places that a symbol or a reference names."""
-        places = {(i, 0) for i, section in enumerate(self.sections) if section.is_held() and section.size}
-        places |= {(symbol.section, symbol.at) for symbol in self.symbols if self.in_flash(symbol)}
+        """The constants as (section, begin, end): what lies between two places that a symbol or a reference names. Not every object has a name."""
+        places = {(symbol.section, symbol.at) for symbol in self.symbols if self.in_flash(symbol)}
         places |= {self.named(symbol, offset) for _, _, symbol, offset in self.references if self.in_flash(symbol)}
-        places = sorted((i, at) for i, at in places if 0 <= at < self.sections[i].size)
-        ends = [following[1] if following[0] == place[0] else self.sections[place[0]].size for place, following in zip(places, places[1:] + [(0, 0)])]
-        return [(i, at, end) for (i, at), end in zip(places, ends)]
+        found = []
+        for i, section in enumerate(self.sections):
+            if section.is_held():
+                begins = sorted({0} | {at for at_section, at in places if at_section == i and 0 < at < section.size})
+                found += [(i, begin, end) for begin, end in zip(begins, begins[1:] + [section.size])]
+        return found
 
     @staticmethod
     def named(symbol, offset):
