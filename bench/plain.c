@@ -59,7 +59,7 @@ struct fields {
 };
 
 /* The CRC's register in the upper half, one bit on: what goes out is gone, and
-   brings the polynomial in. Not a loop of eight: compilers make a table of it. */
+   brings the polynomial in. Not a loop of eight: clang makes a table of it. */
 static uint32_t crc_bit(uint32_t crc)
 {
     return crc << 1 ^ (-(crc >> 31) & 0x10210000);

@@ -6,7 +6,8 @@
 
 A table need not be one object: a compiler may cut it into constants of 16 bytes and lay it out again on the stack. So the constants are counted by
 function too: each object has fewer than BYTES, and so have all together that one function refers to. Data that can be written counts as constants do,
-since its first values lie in the flash. Answers 1 where that is not so.
+since its first values lie in the flash. Answers 1 where that is not so. A table that is spelled in instructions, or spread over several functions, is
+not seen: for that the sizes are printed.
 """
 import collections
 import pathlib

@@ -34,15 +34,15 @@ module _ (t : List ℕ) where
   front : (k : ℕ) → k ≡ min 19 (length t) → take (k - 0) (drop 0 t) ≡ take 19 t
   front k e = ap (λ (k : ℕ). take k t) (sub-zero k ∙ e) ∙ take-least 19 t
 
-  -- the owner field, laid on an array of 00
-  owner : (from to : ℕ) → from ≡ min 21 (length t) → to ≡ min 34 (length t)
-      → (let s = take (to - from) (drop from t) in take (length s) s ++ drop (length s) (replicate 13 0)) ≡ pad 13 (part 21 13 t)
+  -- o is the owner field, laid on an array z of 00
+  owner : (o z : List ℕ) (from to : ℕ) → (let s = take (to - from) (drop from t) in o ≡ take (length s) s ++ drop (length s) z)
+      → z ≡ replicate 13 0 → from ≡ min 21 (length t) → to ≡ min 34 (length t) → o ≡ pad 13 (part 21 13 t)
   unfolding padWith
-  owner from to f e =
+  owner o z from to laid zeros f e =
       let n : to - from ≡ min 13 (length (drop 21 t)) = omega (arith, length-drop 21 t) in
       let s = take (to - from) (drop from t) in
       let is : s ≡ part 21 13 t = ap₂ take n (ap (λ (k : ℕ). drop k t) f ∙ drop-least 21 t) ∙ take-least 13 (drop 21 t) in
-      ap₂ _++_ (take-length s) (drop-replicate (length s) 13 0) ∙ ap (pad 13) is
+      laid ∙ ap₂ _++_ (take-length s) (ap (drop (length s)) zeros ∙ drop-replicate (length s) 13 0) ∙ ap (pad 13) is
 
   -- the register over the front f and then over the owner field o, from the start
   covers : (f o : List ℕ) (r q : ℕ) → f ≡ take 19 t → o ≡ pad 13 (part 21 13 t)
@@ -57,7 +57,7 @@ returns c =
     let bounds = copied .before .before .before in
     let t = bounds .before .before .before .args .tag .now in
     let f = front t _ (front-run .before .before .least3 .ensures) in
-    let o = copied .copy .ensures .1 ∙ owner t _ _ (bounds .before .least .ensures) (bounds .least2 .ensures) in
+    let o = owner t _ _ (bounds .before .least .result) (bounds .least2 .result) (copied .copy .ensures .1) refl (bounds .before .least .ensures) (bounds .least2 .ensures) in
     let r = covers t _ _ _ _ f o (front-run .run .ensures) (c .run2 .ensures) in
     omega (arith, r)
 

@@ -10,10 +10,9 @@ use Rattle.crc.specs.Register.{upper, Becomes}
 use Rattle.crc.proofs.step.Statement.{statement}
 use Rattle.crc.proofs.step.Tie as tie
 
-met : (r b : ℕ) → b < 256 → Becomes r (λ x. bitXor x (b * 256)) (bitXor r (b * 16777216 % 4294967296))
-met r b h x e =
-    let up : b * 16777216 % 4294967296 ≡ upper (b * 256) = omega arith in
-    ap₂ bitXor e up ∙ sym (xor-up 16 x (b * 256))
+-- m is the byte at the high end
+met : (r b m : ℕ) → m ≡ upper (b * 256) → Becomes r (λ x. bitXor x (b * 256)) (bitXor r m)
+met r b m up x e = ap₂ bitXor e up ∙ sym (xor-up 16 x (b * 256))
 
 returns : tie.Need-returns
 unfolding crcByte crcBits
@@ -25,7 +24,7 @@ returns c x e =
     let c3 = c4 .before in
     let c2 = c3 .before in
     let c1 = c2 .before in
-    let one = c1 .bit .ensures _ (met _ _ (c1 .before .fits .byte .fits) x e) in
+    let one = c1 .bit .ensures _ (met _ (c1 .before .args .byte) _ (omega arith) x e) in
     let four = c4 .bit4 .ensures _ (c3 .bit3 .ensures _ (c2 .bit2 .ensures _ one)) in
     c .bit8 .ensures _ (c7 .bit7 .ensures _ (c6 .bit6 .ensures _ (c5 .bit5 .ensures _ four)))
 
