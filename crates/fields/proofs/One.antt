@@ -3,7 +3,8 @@ use mathlib.Core.Path.{_≡_, sym, _∙_}
 use mathlib.Core.Bool.{Bool}
 use Prim.Native.Nat.{ℕ}
 use mathlib.Core.List.{List}
-use Rattle.format.specs.Fields.{text, isil, alternative}
+use Rattle.format.specs.Text.{text}
+use Rattle.format.specs.Fields.{isil, alternative}
 use Rattle.format.specs.Numbers.{numberOf}
 use Rattle.fields.specs.Forms.{itemForm, ownerForm, libraryForm, itemGiven, ownerGiven, libraryGiven}
 use Rattle.fields.specs.declared.ItemField.{ItemField}

@@ -10,15 +10,13 @@ use lib.ListN.{length, drop, getD}
 use lib.Seq.{getD-drop}
 use borrow.Author.Tests.{ne-eqb, leb-true, le-leb, lt-leb, leb-false}
 use Rattle.format.specs.Bytes.{if_then_else_, isEmpty, all, same, padWith, trim, strip, upTo, past}
-use Rattle.format.specs.Fields.{textByte, text, capital, unitByte, isilOf, isil, hyphen, blank, alternate, alternative, isOwner, marker, marked, goodItem, prefixIn, ownerSaid, goodOwner, long, itemField, packed, basicOwner, ownerField}
+use Rattle.format.specs.Text.{rowsFrom, text}
+use Rattle.format.specs.Fields.{capital, unitByte, isilOf, isil, hyphen, blank, alternate, alternative, isOwner, marker, marked, goodItem, prefixIn, ownerSaid, goodOwner, long, itemField, packed, basicOwner, ownerField}
 use Rattle.format.proofs.Tests.{never, and-l, and-r, and-i, and-iff, not-t, or-l, or-r, or-inv, if-inv, all-mono, all-append, same-eq}
+use Rattle.format.proofs.Text.{text-floor}
 use Rattle.format.proofs.Strings.{empty-of, other, without, solid, not-empty, solid-strip, strip-pad, strip-behind, parted}
 
 -- ---- bytes
-
-pub text-ge : (x : ℕ) → textByte x ≡ true → 32 ≤ x
-unfolding textByte
-text-ge x e = leb-true 32 x (and-l (leb 32 x) (leb x 126) e)
 
 pub capital-ge : (x : ℕ) → capital x ≡ true → 65 ≤ x
 unfolding capital
@@ -50,16 +48,15 @@ above f b h s e = all-mono f (other b) (λ x k. other-of b x (h x k)) s e
 -- ---- text: what the layers above ask of it
 
 pub text-solid : (s : List ℕ) → text s ≡ true → solid s ≡ true
-unfolding text
-text-solid s e = above textByte 0 (λ x h. omega (arith, text-ge x h)) s e
+text-solid s e = above (leb 0x20) 0 (λ x h. omega (arith, leb-true 0x20 x h)) s (text-floor s e)
 
 pub text-unmarked : (s : List ℕ) → text s ≡ true → marked s ≡ false
-unfolding text all same
+unfolding all same
 text-unmarked [] e = refl
-text-unmarked (x ∷ s) e = rw (ne-eqb x 1 (omega (arith, text-ge x (and-l (textByte x) (all textByte s) e))))
+text-unmarked (x ∷ s) e = rw (ne-eqb x 1 (omega (arith, leb-true 0x20 x (and-l (leb 0x20 x) (all (leb 0x20) s) (text-floor (x ∷ s) e)))))
 
 pub text-nil : text [] ≡ true
-unfolding text all
+unfolding text rowsFrom
 text-nil = refl
 
 -- ---- the item

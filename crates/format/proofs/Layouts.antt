@@ -13,7 +13,8 @@ use Rattle.format.specs.Answers.{got}
 use Rattle.format.specs.Bytes.{if_then_else_, isEmpty, same, between, part, padWith, pad, strip, upTo, le16, joined}
 use Rattle.format.specs.Pages.{goodSize}
 use Rattle.format.specs.Crc.{crc, covered}
-use Rattle.format.specs.Fields.{text, marker, hyphen, long, alternate, ownerSaid, goodItem, goodOwner, itemField, packed, basicOwner, ownerField}
+use Rattle.format.specs.Text.{text}
+use Rattle.format.specs.Fields.{marker, hyphen, long, alternate, ownerSaid, goodItem, goodOwner, itemField, packed, basicOwner, ownerField}
 use Rattle.format.specs.Chain.{chain, libraryBlock, otherBlocks, libraryIn, goodLibrary, blockOne}
 use Rattle.format.specs.Elements.{Content, numbers, placeIn, place, known, el, shape, sound}
 use Rattle.format.specs.Layout.{ownerWidth, ownerOf, usageOf, library, firstByte, front, basic, laidOut, layout, hasLayout, image, fits}

@@ -7,6 +7,8 @@ pub mod Pieces
 pub mod Xor
 pub mod Crc
 pub mod Paging
+pub mod Text
+pub mod Letters
 pub mod Fields
 pub mod Blocks
 pub mod Counted

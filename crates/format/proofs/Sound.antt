@@ -10,7 +10,8 @@ use lib.ListN.{length, take, drop, getD, length-take, length-drop, length-append
 use borrow.Author.Tests.{ne-eqb, leb-true, le-leb, lt-leb}
 use Rattle.format.specs.Answers.{got}
 use Rattle.format.specs.Bytes.{if_then_else_, isEmpty, all, bytes, same, part, strip, past}
-use Rattle.format.specs.Fields.{text, capital, isilOf, isil, hyphen, blank, alternate, alternative, isOwner, marker, marked, goodItem, prefixIn, ownerSaid, goodOwner, long}
+use Rattle.format.specs.Text.{text}
+use Rattle.format.specs.Fields.{capital, isilOf, isil, hyphen, blank, alternate, alternative, isOwner, marker, marked, goodItem, prefixIn, ownerSaid, goodOwner, long}
 use Rattle.format.specs.Chain.{wellFormed, isLibrary, carriable, libraryBlock, otherBlocks, payload, lastField, libraryIn, goodLibrary}
 use Rattle.format.specs.Elements.{numbers, placeIn, place, shape, form, value, clash, valuesAt, sound}
 use Rattle.format.specs.Damage.{blockAt}

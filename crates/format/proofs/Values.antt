@@ -9,7 +9,8 @@ use lib.Dec.{eqb, leb}
 use lib.ListN.{length, drop, getD, length-drop}
 use borrow.Author.Tests.{eqb-true, eq-eqb, ne-eqb, leb-true, le-leb, lt-leb, eqb-false}
 use Rattle.format.specs.Bytes.{if_then_else_, isEmpty, all, same, le16, word}
-use Rattle.format.specs.Fields.{text, isil, alternate, alternative, isOwner, marker, marked, long, basicOwner}
+use Rattle.format.specs.Text.{text}
+use Rattle.format.specs.Fields.{isil, alternate, alternative, isOwner, marker, marked, long, basicOwner}
 use Rattle.format.specs.Elements.{required, partsOf, ordinalOf, setBytes, setInfo, shape, form, value}
 use Rattle.format.specs.Layout.{firstByte}
 use Rattle.format.proofs.Tests.{never, and-l, and-r, and-i, and-iff, and-no, and-left, not-t, not-f, or-r}

@@ -6,7 +6,8 @@ use lib.ListN.{length, getD, take, drop}
 use lib.Dec.{leb, eqb}
 use Rattle.format.specs.Answers.{Answer, got, Step, needAt, inOrder, andThen}
 use Rattle.format.specs.Bytes.{if_then_else_, isEmpty, le16, word, xorAll, strip, upTo, past}
-use Rattle.format.specs.Fields.{text, isOwner}
+use Rattle.format.specs.Text.{text}
+use Rattle.format.specs.Fields.{isOwner}
 
 -- ---- one block
 

@@ -5,7 +5,8 @@ use mathlib.Core.List.{List, [], _∷_, _++_}
 use lib.ListN.{length, getD, set}
 use lib.Dec.{leb, ltb, eqb}
 use Rattle.format.specs.Bytes.{if_then_else_, isEmpty, all, word, le16}
-use Rattle.format.specs.Fields.{text, isil, alternative, long}
+use Rattle.format.specs.Text.{text}
+use Rattle.format.specs.Fields.{isil, alternative, long}
 use Rattle.format.specs.Chain.{carriable}
 
 -- the numbers of the table, rising; 255, the carried blocks, is apart

@@ -1,18 +1,12 @@
--- What fields hold: text, ISIL and alternative owner (document 01, "Elements"), and the item and owner fields of the basic block
--- ("The first 34 bytes"), read and written by the same forms.
+-- What fields hold: ISIL and alternative owner (document 01, "Elements"), and the item and owner fields of the basic block ("The first 34
+-- bytes"), read and written by the same forms.
 use Prim.Native.Nat.{ℕ, _+_}
 use mathlib.Core.Bool.{Bool, not, _&&_, _||_}
 use mathlib.Core.List.{List, [], _∷_, _++_}
 use lib.ListN.{length, take, drop, getD}
 use lib.Dec.{leb, eqb}
 use Rattle.format.specs.Bytes.{if_then_else_, isEmpty, all, same, between, padWith, pad, upTo, past}
-
--- a text byte is 20 to 7E hex
-unfoldable pub textByte : ℕ → Bool
-textByte b = between 0x20 0x7E b
-
-unfoldable pub text : List ℕ → Bool
-text s = all textByte s
+use Rattle.format.specs.Text.{text}
 
 unfoldable pub capital : ℕ → Bool
 capital b = between 0x41 0x5A b

@@ -3,6 +3,7 @@ pub mod Bytes
 pub mod Pieces
 pub mod Pages
 pub mod Crc
+pub mod Text
 pub mod Fields
 pub mod Chain
 pub mod Elements

@@ -10,7 +10,8 @@ use lib.Dec.{eqb, leb}
 use lib.ListN.{length, drop, getD, length-append, List·getD-map}
 use borrow.Author.Tests.{eq-eqb, ne-eqb, le-leb, lt-leb, leb-true}
 use Rattle.format.specs.Bytes.{if_then_else_, isEmpty, le16, part}
-use Rattle.format.specs.Fields.{text, long, itemField, basicOwner, ownerField}
+use Rattle.format.specs.Text.{text}
+use Rattle.format.specs.Fields.{long, itemField, basicOwner, ownerField}
 use Rattle.format.specs.Chain.{Library, blockOne}
 use Rattle.format.specs.Elements.{numbers, placeIn, place, slot, shape, value, clash}
 use Rattle.format.specs.Layout.{ownerWidth, ownerOf, library, firstByte, front, basic, laidOut, hasLayout}

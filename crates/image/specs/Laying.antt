@@ -5,7 +5,8 @@ use Prim.Native.Nat.{ℕ, _+_, _-_, _≤_}
 use mathlib.Core.Bool.{true}
 use mathlib.Core.List.{List, [], map}
 use lib.ListN.{length, drop, getD, replicate}
-use Rattle.format.specs.Fields.{text, isOwner, basicOwner}
+use Rattle.format.specs.Text.{text}
+use Rattle.format.specs.Fields.{isOwner, basicOwner}
 use Rattle.format.specs.Chain.{Library, libraryBytes, blockOne}
 use Rattle.format.specs.Layout.{ownerWidth}
 

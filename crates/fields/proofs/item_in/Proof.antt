@@ -6,7 +6,8 @@ use mathlib.Core.List.{List}
 use lib.ListN.{length}
 use borrow.Author.Needs.{needs}
 use Rattle.format.specs.Bytes.{strip}
-use Rattle.format.specs.Fields.{text, marked, goodItem}
+use Rattle.format.specs.Text.{text}
+use Rattle.format.specs.Fields.{marked, goodItem}
 use Rattle.fields.specs.declared.ItemField.the-variants.{Good, Refused}
 use Rattle.fields.specs.Forms.{itemParts, itemForm}
 use Rattle.fields.proofs.item_in.Statement.{statement}

@@ -8,7 +8,8 @@ use borrow.Author.Tests.{le-leb, lt-leb, not-true, not-false}
 use lib.Dec.{leb}
 use lib.ListN.{length, drop, getD}
 use Rattle.format.specs.Bytes.{if_then_else_, isEmpty, strip, upTo, past}
-use Rattle.format.specs.Fields.{text, isOwner}
+use Rattle.format.specs.Text.{text}
+use Rattle.format.specs.Fields.{isOwner}
 use Rattle.format.specs.Chain.{payload, lastField, libraryIn, goodLibrary}
 use Rattle.fields.specs.declared.LibraryField.{LibraryField}
 use Rattle.fields.specs.declared.LibraryField.the-variants.{Good, Refused}
