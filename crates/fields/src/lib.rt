@@ -4,10 +4,11 @@ ghost use mathlib.Core.Path.{_≡_};
 ghost use mathlib.Core.Bool.{_||_};
 ghost use lib.ListN.{length, take, drop, getD};
 ghost use Rattle.format.specs.Bytes.{isEmpty, all, between, strip, upTo, past};
-ghost use Rattle.format.specs.Text.{text};
+ghost use Rattle.format.specs.Text.{rows, nothing, after, text};
 ghost use Rattle.format.specs.Fields.{capital, unitByte, isilOf, isil, alternative, isOwner, marked, prefixIn};
 ghost use Rattle.format.specs.Numbers.{numberOf};
 ghost use Rattle.fields.specs.declared.OwnerField.the-variants as owner;
+ghost use Rattle.fields.specs.Text.{dueOf, Takes};
 ghost use Rattle.fields.specs.Forms.{itemForm, ownerForm, libraryForm, itemGiven, ownerGiven, libraryGiven};
 
 // What a good item field of the basic block holds: the marker 01, or text of `len` bytes, 0 for nothing.
@@ -83,18 +84,74 @@ fn is_unit(b: u8) -> bool
     b == b':'
 }
 
-// Is s text, each byte 20 to 7E?
+// What is due of a letter: how many bytes, and the least and the greatest that the first of them can be; the others are 80 to BF.
+struct Due(u8, u8, u8);
+
+// No byte is from FF to 00.
+fn nothing() -> Due
+    ensures { λ r. ⌜ dueOf r ≡ nothing ⌝ }
+{
+    Due(1, 0xFF, 0x00)
+}
+
+// What is due behind b, where nothing was: the rows of RFC 3629, without 00 to 1F and 7F.
+fn after(b: u8) -> Due
+    ensures { λ r. ⌜ dueOf r ≡ after b rows ⌝ }
+{
+    if within(0x20, 0x7E, b) {
+        return Due(0, 0x80, 0xBF);
+    }
+    if b < 0xC2 {
+        return nothing();
+    }
+    if b <= 0xDF {
+        return Due(1, 0x80, 0xBF);
+    }
+    if b == 0xE0 {
+        return Due(2, 0xA0, 0xBF);
+    }
+    if b == 0xED {
+        return Due(2, 0x80, 0x9F);
+    }
+    if b <= 0xEF {
+        return Due(2, 0x80, 0xBF);
+    }
+    if b == 0xF0 {
+        return Due(3, 0x90, 0xBF);
+    }
+    if b <= 0xF3 {
+        return Due(3, 0x80, 0xBF);
+    }
+    if b == 0xF4 {
+        return Due(3, 0x80, 0x8F);
+    }
+    nothing()
+}
+
+// What is due behind b, where this was.
+fn next(due: Due, b: u8) -> Due
+    ensures { λ r. ⌜ Takes due b r ⌝ }
+{
+    if due.0 == 0 {
+        return after(b);
+    }
+    if within(due.1, due.2, b) {
+        return Due(due.0 - 1, 0x80, 0xBF);
+    }
+    nothing()
+}
+
+// Is s text, well-formed UTF-8 without 00 to 1F and 7F? At its end nothing may be due.
 pub fn text(s: &[u8]) -> bool
     ensures { λ r. ⌜ r ≡ text (now (s .entry)) ⌝ }
 {
+    let mut due = Due(0, 0x80, 0xBF);
     let mut i: usize = 0;
     while i < s.len() {
-        if !within(0x20, 0x7E, s[i]) {
-            return false;
-        }
+        due = next(due, s[i]);
         i += 1;
     }
-    true
+    due.0 == 0
 }
 
 // Is each byte of s a capital?

@@ -11,8 +11,8 @@ use lib.ListN.{length, take}
 use borrow.Author.Tests.{leb-true, leb-false, ltb-true, eqb-false, le-leb, lt-leb, ne-eqb}
 use Rattle.format.specs.Bytes.{if_then_else_, all, between, joined}
 use Rattle.format.specs.Text.{Range, _to_, inside, tail, Row, _then_, rows, nothing, after, rowsFrom, text, scalar, control, letter, six, encode, encodings, Encoded}
-use Rattle.format.proofs.Tests.{never, and-l, and-r, and-i, and-iff, not-t, or-inv, or-false, or-f}
-use Rattle.format.proofs.Text.{between-i, between-facts, between-over, between-under, leads}
+use Rattle.format.proofs.Tests.{le-or-lt, never, and-l, and-r, and-i, and-iff, not-t, or-inv, or-false, or-f}
+use Rattle.format.proofs.Text.{between-i, between-facts, between-over, between-under, between-no, leads}
 
 -- ---- what a letter is
 
@@ -21,21 +21,6 @@ pub record Letter (v : ℕ) : Type 0 where
   pub seen : v ≡ 0x7F → ⊥
   pub top : v ≤ 0x10FFFF
   pub whole : (v < 0xD800) ⊎ (0xDFFF < v)
-
-split : (n v : ℕ) → (v ≤ n) ⊎ (n < v)
-split n v = go (leb v n) refl
-  where
-    go : (t : Bool) → leb v n ≡ t → (v ≤ n) ⊎ (n < v)
-    go true e = inl (leb-true v n e)
-    go false e = inr (leb-false v n e)
-
-apart : (v : ℕ) → between 0xD800 0xDFFF v ≡ false → (v < 0xD800) ⊎ (0xDFFF < v)
-apart v e = go (split 0xD7FF v) (split 0xDFFF v)
-  where
-    go : (v ≤ 0xD7FF) ⊎ (0xD7FF < v) → (v ≤ 0xDFFF) ⊎ (0xDFFF < v) → (v < 0xD800) ⊎ (0xDFFF < v)
-    go (inl h) k = inl (omega arith)
-    go (inr h) (inr k) = inr k
-    go (inr h) (inl k) = let b : between 0xD800 0xDFFF v ≡ true = between-i {low = 0xD800} (omega arith) k in never (cc)
 
 letter-facts : (v : ℕ) → letter v ≡ true → Letter v
 unfolding letter scalar control
@@ -48,7 +33,7 @@ letter-facts v e =
       low = omega (arith, leb-false v 0x1F (c .0));
       seen = eqb-false v 0x7F (c .1);
       top = leb-true v 0x10FFFF (and-l (leb v 0x10FFFF) (not surrogate) s);
-      whole = apart v (not-t surrogate (and-r (leb v 0x10FFFF) (not surrogate) s));
+      whole = between-no 0xD800 0xDFFF v (not-t surrogate (and-r (leb v 0x10FFFF) (not surrogate) s));
     }
 
 letter-of : (v : ℕ) → Letter v → letter v ≡ true
@@ -122,13 +107,13 @@ module _ (v : ℕ) where
 
   pub letter-rows : letter v ≡ true → Sequence (encode v)
   unfolding rows all
-  letter-rows e = go (letter-facts v e) (split 0x7F v) (split 0x7FF v) (split 0xFFFF v)
+  letter-rows e = go (letter-facts v e) (le-or-lt 0x7F v) (le-or-lt 0x7FF v) (le-or-lt 0xFFFF v)
     where
       go : Letter v → (v ≤ 0x7F) ⊎ (0x7F < v) → (v ≤ 0x7FF) ⊎ (0x7FF < v) → (v ≤ 0xFFFF) ⊎ (0xFFFF < v) → Sequence (encode v)
       go f (inl h) m n = by _ _ _ (encode-1 v h) (leads 0 v refl refl (f .low) (omega (arith, f .seen))) end
       go f (inr l) (inl h) n = by _ _ _ (encode-2 v l h) (leads 1 (0xC0 + v / 64) refl refl (omega arith) (omega arith)) (six-fits (v / 1) end)
-      go f (inr l) (inr m) (inl h) = three m h (f .whole) (split 0xFFF v) (split 0xCFFF v)
-      go f (inr l) (inr m) (inr h) = four h (f .top) (split 0x3FFFF v) (split 0xFFFFF v)
+      go f (inr l) (inr m) (inl h) = three m h (f .whole) (le-or-lt 0xFFF v) (le-or-lt 0xCFFF v)
+      go f (inr l) (inr m) (inr h) = four h (f .top) (le-or-lt 0x3FFFF v) (le-or-lt 0xFFFFF v)
 
 -- ---- whatever stands in a row is a letter's encoding
 

@@ -8,12 +8,19 @@ use mathlib.Core.Bool.{Bool, true, false, not, _&&_, _||_, Bool·beq}
 use mathlib.Core.List.{List, [], _∷_, _++_}
 use lib.ListN.{length, take, drop, getD}
 use lib.Dec.{eqb, leb}
-use borrow.Author.Tests.{eqb-true, eq-eqb, leb-true, le-leb}
+use borrow.Author.Tests.{eqb-true, eq-eqb, leb-true, leb-false, le-leb}
 use Rattle.format.specs.Bytes.{if_then_else_, all, same, bytes}
 
 -- what is absurd proves anything
 pub never : {A : Type 0} → _≡_ {A = ℕ} 0 1 → A
 never z = absurd (suc-ne-zero 0 (sym z))
+
+pub le-or-lt : (n v : ℕ) → (v ≤ n) ⊎ (n < v)
+le-or-lt n v = go (leb v n) refl
+  where
+    go : (t : Bool) → leb v n ≡ t → (v ≤ n) ⊎ (n < v)
+    go true e = inl (leb-true v n e)
+    go false e = inr (leb-false v n e)
 
 pub and-l : (a b : Bool) → a && b ≡ true → a ≡ true
 and-l true b e = refl

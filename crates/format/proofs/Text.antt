@@ -1,13 +1,14 @@
 -- Laws of text: what the fields, the code points and the code ask of it. They hold of any rows; `rows` itself is opened only where a fact
 -- about it is computed.
 use mathlib.Core.Path.{_≡_, refl, ap, _∙_}
+use mathlib.Core.Logic.{_⊎_, inl, inr}
 use Prim.Native.Nat.{ℕ, zero, suc, _≤_, _<_}
 use native.Mathlib.Omega.{arith}
 use mathlib.Core.Bool.{Bool, true, false, _&&_}
 use mathlib.Core.List.{List, [], _∷_, _++_}
 use lib.Dec.{leb, ltb}
 use lib.ListN.{take, drop}
-use borrow.Author.Tests.{leb-true, le-leb, lt-leb, ltb-true}
+use borrow.Author.Tests.{leb-true, leb-false, le-leb, lt-leb, ltb-true}
 use Rattle.format.specs.Bytes.{if_then_else_, all, between}
 use Rattle.format.specs.Text.{Range, _to_, inside, Row, _then_, rows, nothing, after, rowsFrom, text}
 use Rattle.format.proofs.Tests.{never, and-l, and-r, and-i, and-no, and-left}
@@ -25,6 +26,13 @@ between-over low high b h = and-no (leb low b) (leb b high) (lt-leb b high h)
 
 pub between-under : (low high b : ℕ) → b < low → between low high b ≡ false
 between-under low high b h = and-left (leb low b) (leb b high) (lt-leb low b h)
+
+pub between-no : (low high b : ℕ) → between low high b ≡ false → (b < low) ⊎ (high < b)
+between-no low high b e = go (leb low b) refl e
+  where
+    go : (t : Bool) → leb low b ≡ t → t && leb b high ≡ false → (b < low) ⊎ (high < b)
+    go true h k = inr (leb-false b high k)
+    go false h k = inl (leb-false low b h)
 
 -- ---- which row a byte leads
 

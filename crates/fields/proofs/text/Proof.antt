@@ -1,43 +1,56 @@
--- The invariant: the bytes before `i` pass the test. The measure is what is left.
+-- The invariant: what is due at `i`, with the bytes from there on, decides. The measure is what is left.
+use mathlib.Core.Path.{refl}
 use Prim.Native.Nat.{_-_}
-use mathlib.Core.Path.{sym, _∙_}
+use native.Mathlib.Omega.{arith}
 use borrow.Author.Needs.{needs}
-use borrow.Author.Tests.{not-true, not-false}
 use lib.ListN.{length}
-use Rattle.format.specs.Fields.{textByte, text}
-use Rattle.format.proofs.Passing.{Passing, passing-start, passing-on, passing-not, passing-all}
+use Rattle.format.specs.Text.{text}
+use Rattle.fields.proofs.Texts.{Judging, judging-on, judging-all}
 use Rattle.fields.proofs.text.Statement.{statement}
 use Rattle.fields.proofs.text.Tie as tie
 
 abbrev Inv-loop : tie.InvT-loop
-Inv-loop s i₀ i = Passing textByte s i
+Inv-loop s due₀ i₀ due i = Judging s due i
 
 abbrev μ-loop : tie.MeasureT-loop
-μ-loop s i₀ i = length s - i
+μ-loop s due₀ i₀ due i = length s - i
 
 loop-holds : tie.Need-loop-holds Inv-loop μ-loop
-loop-holds c = passing-start textByte (c .before .args .s .now)
+unfolding text
+loop-holds c = record { within = omega arith; rest = refl }
 
-returns : tie.Need-returns Inv-loop μ-loop
-unfolding textByte text
-returns c =
-    let k = c .before .before .before .before in
-    passing-not textByte (k .before .before .args .s .now) (k .loop .i) (k .loop .inv) (c .before .before .before .loop-test .taken)
-    (sym (c .before .within .ensures) ∙ not-true _ (c .if1 .taken))
+shared-slice-read-next : tie.Need-shared-slice-read-next Inv-loop μ-loop
+shared-slice-read-next c = search needs
+
+next-requires : tie.Need-next-requires Inv-loop μ-loop
+next-requires c κs = search needs
+
+add-i : tie.Need-add-i Inv-loop μ-loop
+add-i c = search needs
+
+loop-less : tie.Need-loop-less Inv-loop μ-loop
+loop-less c = search needs
 
 loop-again : tie.Need-loop-again Inv-loop μ-loop
-unfolding textByte text
 loop-again c =
-    let k = c .before .before .before .before in
-    passing-on textByte (k .before .before .args .s .now) (k .loop .i) (k .loop .inv) (c .before .before .before .loop-test .taken)
-    (sym (c .before .within .ensures) ∙ not-false _ (c .if1 .left))
+    let k = c .before .before .before in
+    judging-on (k .before .before .args .s .now) (k .loop .due) (k .loop .i) (k .loop .inv) (c .next .result) (c .before .before .loop-test .taken) (c .next .ensures)
 
-returns-2 : tie.Need-returns-2 Inv-loop μ-loop
-unfolding textByte text
-returns-2 c = passing-all textByte (c .before .before .before .args .s .now) (c .before .loop .i) (c .before .loop .inv) (c .loop-test .left)
+returns : tie.Need-returns Inv-loop μ-loop
+returns c =
+    let k = c .before .before in
+    judging-all (k .before .before .args .s .now) (k .loop .due) (k .loop .i) (k .loop .inv) (c .before .loop-test .left)
 
 pub text-spec : {M : Type 1} → statement M
 text-spec =
     tie.close
-    (tie.spec Inv-loop μ-loop loop-holds (λ c. search needs) (λ c κs. search needs) returns (λ c. search needs) (λ c. search needs) loop-again
-    returns-2)
+    (tie.spec
+    Inv-loop
+    μ-loop
+    loop-holds
+    shared-slice-read-next
+    next-requires
+    add-i
+    loop-less
+    loop-again
+    returns)
