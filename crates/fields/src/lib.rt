@@ -246,11 +246,18 @@ fn up_to(s: &[u8], b: u8) -> &[u8]
     front(s, find(s, b))
 }
 
+// The bytes behind the byte at a place.
+fn behind(s: &[u8], at: usize) -> &[u8]
+    ensures { λ r. ⌜ now r ≡ drop 1 (drop at (now (s .entry))) ⌝ }
+{
+    from(from(s, at), 1)
+}
+
 // The bytes behind the first b.
 fn past(s: &[u8], b: u8) -> &[u8]
     ensures { λ r. ⌜ now r ≡ past b (now (s .entry)) ⌝ }
 {
-    from(from(s, find(s, b)), 1)
+    behind(s, find(s, b))
 }
 
 // Is s the marker 01?
@@ -390,9 +397,9 @@ pub fn library_in(block: &[u8]) -> LibraryField
     let payload = held(from(block, 4));
     let fields = from(payload, 1);
     let item = up_to(fields, 0);
-    let behind_item = past(fields, 0);
+    let behind_item = behind(fields, item.len());
     let owner = up_to(behind_item, 0);
-    let last = past(behind_item, 0);
+    let last = behind(behind_item, owner.len());
     if 1 < last.len() {
         return LibraryField::Refused(6);
     }

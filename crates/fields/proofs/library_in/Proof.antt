@@ -1,5 +1,5 @@
 -- Block 1 is judged by its parts, once they are in hand.
-use mathlib.Core.Path.{_≡_, sym, _∙_}
+use mathlib.Core.Path.{_≡_, sym, ap, _∙_}
 use Prim.Native.Nat.{ℕ}
 use mathlib.Core.Bool.{Bool, true, _&&_, _||_}
 use mathlib.Core.List.{List}
@@ -14,6 +14,7 @@ use Rattle.format.specs.Chain.{payload, lastField, libraryIn, goodLibrary}
 use Rattle.fields.specs.declared.LibraryField.{LibraryField}
 use Rattle.fields.specs.declared.LibraryField.the-variants.{Good, Refused}
 use Rattle.fields.specs.Forms.{libraryParts, libraryForm}
+use Rattle.fields.proofs.Places.{past-drop}
 use Rattle.fields.proofs.library_in.Statement.{statement}
 use Rattle.fields.proofs.library_in.Tie as tie
 
@@ -29,21 +30,25 @@ by-parts : (b : List ℕ) {tail p fields item more owner last : List ℕ} → ta
 unfolding libraryForm libraryParts goodLibrary libraryIn lastField payload
 by-parts b t p f i m o l = rw (l, o, m, i, f, p, t)
 
+-- what is behind the first 00, once what is before it is in hand
+behind-past : (s : List ℕ) {front more : List ℕ} → front ≡ upTo 0 s → more ≡ drop 1 (drop (length front) s) → more ≡ past 0 s
+behind-past s f m = m ∙ ap (λ (x : List ℕ). drop 1 (drop (length x) s)) f ∙ sym (past-drop 0 s)
+
 stands : {a b c : Bool} {m n m′ n′ i o : ℕ} → a ≡ true → b ≡ true → c ≡ true → m ≡ m′ → n ≡ n′
     → (if a && b && c then Good (record { media = m′; item = i; owner = o; usage = n′ }) else Refused 6)
     ≡ Good (record { media = m; item = i; owner = o; usage = n })
 stands a b c m n = rw (a, b, c, m, n)
 
-in-hand : (c : tie.After-past2)
+in-hand : (c : tie.After-behind2)
     → let i = c .before .before .before in
     let p = i .before .before in
     libraryForm (p .before .before .before .args .block .now)
-    ≡ formBy (p .held .result .now) (i .up-to .result .now) (c .before .up-to2 .result .now) (c .past2 .result .now)
+    ≡ formBy (p .held .result .now) (i .up-to .result .now) (c .before .up-to2 .result .now) (c .behind2 .result .now)
 in-hand c =
     let i = c .before .before .before in
     let p = i .before .before in
     by-parts (p .before .before .before .args .block .now) (p .before .from .ensures) (p .held .ensures) (i .before .from2 .ensures)
-    (i .up-to .ensures) (c .before .before .past .ensures) (c .before .up-to2 .ensures) (c .past2 .ensures)
+    (i .up-to .ensures) (behind-past _ (i .up-to .ensures) (c .before .before .behind .ensures)) (c .before .up-to2 .ensures) (behind-past _ (c .before .up-to2 .ensures) (c .behind2 .ensures))
 
 returns : tie.Need-returns
 returns c = sym (in-hand (c .before) ∙ simp (lt-leb _ _ (c .if1 .taken)))
@@ -74,7 +79,7 @@ returns-4 c =
     let l = t .before .before in
     sym (in-hand l
     ∙ stands
-    (le-leb (length (l .past2 .result .now)) 1 (t .before .if1 .left))
+    (le-leb (length (l .behind2 .result .now)) 1 (t .before .if1 .left))
     (sym (t .text .ensures) ∙ not-false (t .text .result) (o .before .if2 .left))
     (sym (o .owner-stands .ensures) ∙ not-false (o .owner-stands .result) (c .before .before .if3 .left))
     (c .before .byte-at .ensures)

@@ -9,8 +9,8 @@ use Rattle.fields.proofs.past.Tie as tie
 
 returns : tie.Need-returns
 returns c =
-    let a = c .before .before .before .before .args in
-    c .from2 .ensures ∙ ap (drop 1) (c .before .from .ensures ∙ ap (λ (n : ℕ). drop n (a .s .now)) (c .before .before .find .ensures)) ∙ sym (past-drop (a .b) (a .s .now))
+    let a = c .before .before .before .args in
+    c .behind .ensures ∙ ap (λ (n : ℕ). drop 1 (drop n (a .s .now))) (c .before .find .ensures) ∙ sym (past-drop (a .b) (a .s .now))
 
 pub past-spec : {M : Type 1} → statement M
-past-spec = tie.close (tie.spec (λ c κs. search needs) (λ c κs. search needs) (λ c κs. search needs) returns)
+past-spec = tie.close (tie.spec (λ c κs. search needs) (λ c κs. search needs) returns)
