@@ -21,6 +21,7 @@ pub mod Readable
 pub mod Values
 pub mod Layouts
 pub mod Sound
+pub mod Whole
 pub mod Shorter
 pub mod Offsets
 pub mod Refusals

@@ -4,36 +4,41 @@
 use mathlib.Core.Path.{_≡_, refl, sym, ap, ap₂, _∙_}
 use mathlib.Core.Logic.{_⊎_}
 use Prim.Native.Nat.{ℕ, _+_, _≤_, _<_}
-use mathlib.Core.Bool.{true, false, _&&_}
-use mathlib.Core.List.{List}
-use lib.ListN.{length}
+use mathlib.Core.Bool.{Bool, true, false, _&&_}
+use mathlib.Core.List.{List, _++_}
+use lib.ListN.{length, take, drop}
 use borrow.Author.Tests.{le-leb}
 use Rattle.format.specs.Answers.{Answer, Refusal, plain, placed, got, refused, Step, inOrder}
-use Rattle.format.specs.Bytes.{bytes, filled, joined}
+use Rattle.format.specs.Bytes.{all, between, bytes, filled, joined}
 use Rattle.format.specs.Pages.{pageSize, goodSize, lockMap, changed, openPages, Kept}
+use Rattle.format.specs.Text.{text, letter, encode, Encoded}
+use Rattle.format.specs.Fields.{alternate, marked}
 use Rattle.format.specs.Elements.{Content, partsOf, ordinalOf, known, el, put, value, sound}
 use Rattle.format.specs.Sheet.{sheetOf, fitting, entriesIn, rightSheet, find, contentOf, goodValues, entries}
 use Rattle.format.specs.Layout.{ownerWidth, laidOut, image, fits}
-use Rattle.format.specs.Reading.{walked, blocksIn, contentIn, Readable}
+use Rattle.format.specs.Reading.{itemIn, ownerIn, walked, blocksIn, libraryOn, contentIn, Readable}
 use Rattle.format.specs.Damage.{Damaged}
 use Rattle.format.specs.Calls.{sheetIn, readSteps, reading, sheetContent, writeSteps, writing, ownLayout, editSteps, Edited, editing}
 use Rattle.format.specs.Numbers.{oneOf, damageNumbers, Gives, gives, oneGives, readGives, writeGives, editGives, Each, numberOf, resultOf, Reads, Writes, Edits, ReadsC, WritesC, EditsC}
 use Rattle.format.specs.History.{Own, State, begin, run}
-use Rattle.format.specs.Demands.{Exact, ReadsExactly, WritesExactly, EditsExactly, ReadsDamage, EditsDamage, ReadsUnchanged, WritesUnchanged, EditsUnchanged, ReadsBack, LaysDown, CountsWritten, CountsEdited, PutsElement, EveryHistory, SameIsNothing}
+use Rattle.format.specs.Demands.{Exact, ReadsExactly, WritesExactly, EditsExactly, ReadsDamage, EditsDamage, ReadsUnchanged, WritesUnchanged, EditsUnchanged, TextExactly, ReadsBack, LaysDown, CountsWritten, CountsEdited, PutsElement, EveryHistory, SameIsNothing}
 use Rattle.format.specs.declared.NumberAnswer.{NumberAnswer}
 use Rattle.format.specs.declared.ReadAnswer.{ReadAnswer}
 use Rattle.format.specs.declared.EditAnswer.{EditAnswer}
-use Rattle.format.proofs.Tests.{and-l, and-r, and-i, and-no, and-left}
+use Rattle.format.proofs.Tests.{and-l, and-r, and-i, and-no, and-left, same-truth}
 use Rattle.format.proofs.Answers.{refuses, refused-first, works, worked, next-ok, next-no, afterwards-got, afterwards-refused}
 use Rattle.format.proofs.Damages.{damage-refused, placed-damage, damage-number, damage-inside, spoilt-on}
 use Rattle.format.proofs.Refusals.{read-order, write-order, edit-order, listed, zero-done, read-spoilt, edit-spoilt, place-told, reads-apart, edits-apart}
 use Rattle.format.proofs.Readable.{readable-on}
 use Rattle.format.proofs.Paging.{changed-self}
+use Rattle.format.proofs.Text.{text-plain, text-append}
+use Rattle.format.proofs.Letters.{text-letters, letters-text, cut-letters}
 use Rattle.format.proofs.Slots.{put-same, wide-unknown}
 use Rattle.format.proofs.Sheets.{sheet-right, right-sheet}
 use Rattle.format.proofs.Entries.{entries-content, values-parts, content-entries, bad-set}
 use Rattle.format.proofs.Values.{set-held, set-no-value}
 use Rattle.format.proofs.Sound.{read-sound}
+use Rattle.format.proofs.Whole.{tag-whole, content-whole}
 use Rattle.format.proofs.Shorter.{read-fits, laid-shorter}
 use Rattle.format.proofs.Offsets.{read-fitting}
 use Rattle.format.proofs.Laying.{laid-open, layout-own}
@@ -174,6 +179,37 @@ writing-unchanged p s t locks x e = afterwards-refused _ x _ t e
 pub editing-unchanged : EditsUnchanged editing
 unfolding editing
 editing-unchanged p t locks n s buffer x e = (afterwards-refused _ x _ t e, afterwards-refused _ x _ buffer e)
+
+-- ==== Demand 2: what text is
+
+-- Text is a row of letters, each encoded as RFC 3629 has it: Unicode scalar values without 00 to 1F and 7F. So it has no overlong form, no
+-- surrogate and nothing above 10FFFF.
+pub text-exactly : TextExactly text
+text-exactly s = (text-letters s, letters-text s)
+
+-- no other rule does that
+pub text-one : (rule : List ℕ → Bool) → TextExactly rule → (s : List ℕ) → rule s ≡ text s
+text-one rule e s = same-truth (rule s) (text s) (λ h. letters-text s (e s .0 h)) (λ h. e s .1 (text-letters s h))
+
+-- bytes 20 to 7E are text, as before; text joined to text is text; a text and then a letter that is cut is none
+pub text-as-before : (s : List ℕ) → all (between 0x20 0x7E) s ≡ true → text s ≡ true
+text-as-before = text-plain
+
+pub text-joined : (s t : List ℕ) → text s ≡ true → text t ≡ true → text (s ++ t) ≡ true
+text-joined = text-append
+
+pub text-cut : (s : List ℕ) (v k : ℕ) → text s ≡ true → letter v ≡ true → 0 < k → k < length (encode v) → text (s ++ take k (encode v)) ≡ false
+text-cut s v k e = cut-letters s v k (text-letters s e)
+
+-- Each field is judged by itself, up to its end, to a 00 or to a separator, and has whole letters: in a tag that reads,
+pub fields-whole : (t : List ℕ) → Readable t
+    → ((marked (itemIn t) ≡ true) ⊎ Encoded (itemIn t)) × Encoded (libraryOn t .item)
+    × (alternate (drop 2 (ownerIn t)) ≡ true → Encoded (drop 3 (ownerIn t))) × (alternate (libraryOn t .owner) ≡ true → Encoded (drop 1 (libraryOn t .owner)))
+fields-whole = tag-whole
+
+-- and in the elements that are read or written.
+pub texts-whole : (c : Content) → sound c ≡ true → Encoded (el c 1) × Encoded (el c 22) × Encoded (drop 1 (el c 23))
+texts-whole = content-whole
 
 -- ==== Demand 2: reading and writing agree
 

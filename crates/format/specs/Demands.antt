@@ -2,12 +2,13 @@
 -- and `editing`; `proofs/Wrong.antt` shows of several kinds of wrong ones that they do not have it.
 use mathlib.Core.Path.{_≡_}
 use Prim.Native.Nat.{ℕ, _≤_}
-use mathlib.Core.Bool.{true, _&&_}
+use mathlib.Core.Bool.{Bool, true, _&&_}
 use mathlib.Core.List.{List}
 use lib.ListN.{length}
 use Rattle.format.specs.Answers.{Answer, Refusal, placed, got, refused, Step, Passed, FirstRefusal}
 use Rattle.format.specs.Bytes.{filled}
 use Rattle.format.specs.Pages.{goodSize, lockMap, changed, Kept}
+use Rattle.format.specs.Text.{Encoded}
 use Rattle.format.specs.Elements.{Content, known, el, put}
 use Rattle.format.specs.Sheet.{sheetOf, entries}
 use Rattle.format.specs.Damage.{Spoilt}
@@ -61,6 +62,12 @@ abbrev pub EditsUnchanged : Editor → Type 0
 EditsUnchanged edit =
     (p : ℕ) (t locks : List ℕ) (n : ℕ) (s buffer : List ℕ) (x : Refusal) → edit p t locks n s buffer .answer ≡ refused x
     → (edit p t locks n s buffer .tag ≡ t) × (edit p t locks n s buffer .old ≡ buffer)
+
+-- ---- demand 2: what text is
+
+-- a string is text exactly where it is a row of letters, each encoded
+abbrev pub TextExactly : (List ℕ → Bool) → Type 0
+TextExactly rule = (s : List ℕ) → Exactly (rule s ≡ true) (Encoded s)
 
 -- ---- demand 2: reading and writing agree
 
