@@ -1,16 +1,17 @@
 -- Two tables of worked examples, each under a single statement that is computed: the pairs that document 01 marks P, and the whole case
 -- with the published examples B.1 and B.2 of the standard, a tag with both markers, a full one and one with a plain block, each read and
--- written; edits, loose tags, damage, alphabets, values at their bounds, wrong sheets, lock maps, and what a C host gets.
+-- written; names with accents, edits, loose tags, damage, alphabets and texts, values at their bounds, wrong sheets, lock maps, and what a C
+-- host gets.
 use Prim.Native.Nat.{ℕ, _+_, _-_, _/_}
 use mathlib.Core.Bool.{Bool, false, not, _&&_}
 use mathlib.Core.List.{List, [], _∷_, _++_}
 use lib.ListN.{length, replicate, take}
 use lib.Dec.{T, eqb}
 use Rattle.format.specs.Answers.{Answer, plain, placed, got, refused, need, needAt, inOrder, afterwards, andThen, orElse, passed}
-use Rattle.format.specs.Bytes.{all, same, le16, word, padWith, trim, strip, upTo, past, xorAll, joined}
+use Rattle.format.specs.Bytes.{all, same, le16, word, part, padWith, trim, strip, upTo, past, xorAll, joined}
 use Rattle.format.specs.Pages.{pageSize, goodSize, lockMap, differs, lockedDiffers, count, changed, lockedChanged}
 use Rattle.format.specs.Crc.{crcBit, crcBits, crcByte, crcFrom, crc, covered}
-use Rattle.format.specs.Text.{rows, after, rowsFrom, text}
+use Rattle.format.specs.Text.{rows, after, rowsFrom, text, encode, encodings}
 use Rattle.format.specs.Fields.{capital, unitByte, isilOf, isil, alternative, isOwner, goodItem, prefixIn, ownerSaid, goodOwner, itemField, packed, basicOwner, ownerField}
 use Rattle.format.specs.Chain.{named, summed, wellFormed, carriable, damageSteps, walk, chain, libraryBlock, otherBlocks, payload, lastField, libraryIn, goodLibrary, libraryBytes, sealed, blockOne}
 use Rattle.format.specs.Elements.{numbers, setInfo, shape, form, value, placeIn, place, known, put, clash}
@@ -213,6 +214,65 @@ damages =
 alphabets : Bool
 alphabets = eqb (count (λ b. text (b ∷ [])) 256) 95 && eqb (count capital 256) 26 && eqb (count unitByte 256) 65
 
+-- the bounds of the rows are text, and what is just beyond them is none; nor is a letter that is cut, a tail alone, or a control of the list
+texts : Bool
+texts =
+    all text (
+    (0x20 ∷ []) ∷ (0x7E ∷ []) ∷ (0xC2 ∷ 0x80 ∷ []) ∷ (0xDF ∷ 0xBF ∷ []) ∷ (0xE0 ∷ 0xA0 ∷ 0x80 ∷ []) ∷ (0xE1 ∷ 0x80 ∷ 0x80 ∷ []) ∷ (0xEC ∷ 0xBF ∷ 0xBF ∷ []) ∷
+    (0xED ∷ 0x9F ∷ 0xBF ∷ []) ∷ (0xEE ∷ 0x80 ∷ 0x80 ∷ []) ∷ (0xEF ∷ 0xBF ∷ 0xBF ∷ []) ∷ (0xF0 ∷ 0x90 ∷ 0x80 ∷ 0x80 ∷ []) ∷ (0xF1 ∷ 0x80 ∷ 0x80 ∷ 0x80 ∷ []) ∷
+    (0xF3 ∷ 0xBF ∷ 0xBF ∷ 0xBF ∷ []) ∷ (0xF4 ∷ 0x8F ∷ 0xBF ∷ 0xBF ∷ []) ∷ [])
+    && all (λ s. not (text s)) (
+    (0 ∷ []) ∷ (0x1F ∷ []) ∷ (0x7F ∷ []) ∷ (0x80 ∷ []) ∷ (0xC0 ∷ 0xAF ∷ []) ∷ (0xC1 ∷ 0xBF ∷ []) ∷ (0xC2 ∷ []) ∷ (0xC2 ∷ 0x7F ∷ []) ∷ (0xC2 ∷ 0xC0 ∷ []) ∷
+    (0xE0 ∷ 0x9F ∷ 0xBF ∷ []) ∷ (0xE1 ∷ 0x80 ∷ []) ∷ (0xED ∷ 0xA0 ∷ 0x80 ∷ []) ∷ (0xF0 ∷ 0x8F ∷ 0xBF ∷ 0xBF ∷ []) ∷ (0xF1 ∷ 0x80 ∷ 0x80 ∷ []) ∷
+    (0xF4 ∷ 0x90 ∷ 0x80 ∷ 0x80 ∷ []) ∷ (0xF5 ∷ 0x80 ∷ 0x80 ∷ 0x80 ∷ []) ∷ (0xFF ∷ []) ∷ [])
+
+-- RFC 3629, section 7: A, not identical to, Alpha and a dot; hangugeo; nihongo; a signature and 233B4
+codePoints : Bool
+codePoints =
+    same (encodings (0x41 ∷ 0x2262 ∷ 0x391 ∷ 0x2E ∷ [])) (0x41 ∷ 0xE2 ∷ 0x89 ∷ 0xA2 ∷ 0xCE ∷ 0x91 ∷ 0x2E ∷ [])
+    && same (encodings (0xD55C ∷ 0xAD6D ∷ 0xC5B4 ∷ [])) (0xED ∷ 0x95 ∷ 0x9C ∷ 0xEA ∷ 0xB5 ∷ 0xAD ∷ 0xEC ∷ 0x96 ∷ 0xB4 ∷ [])
+    && same (encodings (0x65E5 ∷ 0x672C ∷ 0x8A9E ∷ [])) (0xE6 ∷ 0x97 ∷ 0xA5 ∷ 0xE6 ∷ 0x9C ∷ 0xAC ∷ 0xE8 ∷ 0xAA ∷ 0x9E ∷ [])
+    && same (encodings (0xFEFF ∷ 0x233B4 ∷ [])) (0xEF ∷ 0xBB ∷ 0xBF ∷ 0xF0 ∷ 0xA3 ∷ 0x8E ∷ 0xB4 ∷ [])
+
+-- e acute eight times, 16 bytes, stands in the basic block; with an x behind it, 9 characters and 17 bytes, in block 1
+unfoldable pub accents : List ℕ
+accents = joined (replicate 8 (0xC3 ∷ 0xA9 ∷ []))
+
+unfoldable pub itemSheet : List ℕ → List ℕ
+itemSheet s = let n : ℕ = length s in 3 ∷ 0 ∷ 1 ∷ 14 ∷ 0 ∷ n ∷ 4 ∷ (14 + n) ∷ 0 ∷ 4 ∷ 5 ∷ (18 + n) ∷ 0 ∷ 1 ∷ s ++ (1 ∷ 0 ∷ 1 ∷ 0 ∷ 0x10 ∷ [])
+
+accentTag : List ℕ
+accentTag = 0x11 ∷ 1 ∷ 1 ∷ accents ++ (0x5D ∷ 0xFD ∷ zeros 15)
+
+longAccentTag : List ℕ
+longAccentTag = 0x11 ∷ 1 ∷ 1 ∷ 1 ∷ zeros 15 ++ (0x1F ∷ 0x1B ∷ zeros 13 ++ (22 ∷ 1 ∷ 0 ∷ 0x6F ∷ 0 ∷ accents ++ (0x78 ∷ [])))
+
+-- the item field ends inside a letter: the CRC's first byte, 88, would complete it, and is not looked at
+cutTag : List ℕ
+cutTag = 0x11 ∷ 1 ∷ 1 ∷ replicate 15 0x45 ++ (0xC3 ∷ 0x88 ∷ 0x0E ∷ zeros 15)
+
+cutField : Bool
+cutField = refuses (reading pageSize cutTag [] .answer) 6 && not (text (part 3 16 cutTag)) && text (part 3 17 cutTag)
+
+-- no text: an overlong form, a surrogate, a value above 10FFFF, a letter that is cut, 7F. A sheet and an edit with it are refused 9; a tag with
+-- it in the item field, in block 1, and in an alternative owner is refused 6
+illFormed : Bool
+illFormed = all refusedAll ((0xC0 ∷ 0xAF ∷ []) ∷ (0xED ∷ 0xA0 ∷ 0x80 ∷ []) ∷ (0xF4 ∷ 0x90 ∷ 0x80 ∷ 0x80 ∷ []) ∷ (0x61 ∷ 0xC3 ∷ []) ∷ (0x7F ∷ []) ∷ [])
+  where
+    basicTag : List ℕ → List ℕ → List ℕ → List ℕ
+    basicTag item owner blocks =
+        let i : List ℕ = 0x11 ∷ 1 ∷ 1 ∷ padWith 0 16 item in
+        let o : List ℕ = padWith 0 13 owner in
+        let t : List ℕ = i ++ (le16 (crc (i ++ o)) ++ (o ++ blocks)) in
+        t ++ zeros (64 - length t)
+
+    refusedAll : List ℕ → Bool
+    refusedAll s =
+        refuses (writing pageSize (itemSheet s) (zeros 36) (zeros 9) .answer) 9
+        && editRefused 9 (editing pageSize accentTag (zeros 9) 1 s (zeros 255) .answer) && editRefused 9 (editing pageSize accentTag (zeros 9) 23 (3 ∷ s) (zeros 255) .answer)
+        && refuses (reading pageSize (basicTag s [] []) [] .answer) 6 && refuses (reading pageSize (basicTag [] [] (sealed 1 (0 ∷ s))) [] .answer) 6
+        && refuses (reading pageSize (basicTag [] (0 ∷ 0 ∷ 2 ∷ s) []) [] .answer) 6
+
 -- an ISIL of so many capitals and unit characters
 isilWith : ℕ → ℕ → List ℕ
 isilWith n m = replicate n 0x41 ++ (0x2D ∷ replicate m 0x41)
@@ -262,8 +322,9 @@ pub examples : List Bool
 examples =
     isSheetOf wholeSheet wholeTag ∷ isSheetOf sheet1 tag1 ∷ isSheetOf sheet2 tag2 ∷ isSheetOf markedSheet markedTag ∷ isSheetOf fullSheet fullTag ∷
     isSheetOf plainSheet plainTag ∷ changedBack ∷ moved ∷ wideNumber ∷ looseTags ∷
+    isSheetOf (itemSheet accents) accentTag ∷ isSheetOf (itemSheet (accents ++ (0x78 ∷ []))) longAccentTag ∷ cutField ∷ illFormed ∷ texts ∷ codePoints ∷
     damages ∷ alphabets ∷ oneCapital ∷ bounds ∷ wrongSheets ∷ lockMaps ∷ resultsInC ∷ []
 
 pub examples-hold : T (all (λ b. b) examples)
-unfolding examples isilUs wholeSheet wholeFront wholeTag isilDk fieldDk item1 tag1 sheet1 item2 acquisition tag2 sheet2 longItem isilOclc markedTag markedSheet withBlocks fullTag fullSheet plainTag plainSheet endingZeros mediaSheet changedBack moved editRefused wideNumber isLoose looseTags damagedAt damages alphabets isilWith oneCapital bounds wrongSheets lockMaps resultsInC need needAt inOrder afterwards andThen orElse passed all same le16 word padWith trim strip upTo past xorAll joined goodSize lockMap differs lockedDiffers count changed lockedChanged crcBit crcBits crcByte crcFrom crc covered rows after rowsFrom text capital unitByte isilOf isil alternative isOwner goodItem prefixIn ownerSaid goodOwner itemField packed basicOwner ownerField named summed wellFormed carriable damageSteps walk chain libraryBlock otherBlocks payload lastField libraryIn goodLibrary libraryBytes sealed blockOne numbers setInfo shape form value placeIn place known put clash heads bodies sheetOf offsetsFit risingFrom rising cut entriesIn rightSheet find carriedIn contentOf goodValues entriesAt carriedEntries entries library front basic laidOut layout hasLayout goodFields agree ownerOn contentIn tagSteps readSteps reading layingSteps writeSteps writing ownLayout editSteps editing
+unfolding examples isilUs wholeSheet wholeFront wholeTag isilDk fieldDk item1 tag1 sheet1 item2 acquisition tag2 sheet2 longItem isilOclc markedTag markedSheet withBlocks fullTag fullSheet plainTag plainSheet endingZeros mediaSheet changedBack moved editRefused wideNumber isLoose looseTags damagedAt damages alphabets texts codePoints accents itemSheet accentTag longAccentTag cutTag cutField illFormed isilWith oneCapital bounds wrongSheets lockMaps resultsInC need needAt inOrder afterwards andThen orElse passed all same le16 word padWith trim strip upTo past xorAll joined goodSize lockMap differs lockedDiffers count changed lockedChanged crcBit crcBits crcByte crcFrom crc covered rows after rowsFrom text encode capital unitByte isilOf isil alternative isOwner goodItem prefixIn ownerSaid goodOwner itemField packed basicOwner ownerField named summed wellFormed carriable damageSteps walk chain libraryBlock otherBlocks payload lastField libraryIn goodLibrary libraryBytes sealed blockOne numbers setInfo shape form value placeIn place known put clash heads bodies sheetOf offsetsFit risingFrom rising cut entriesIn rightSheet find carriedIn contentOf goodValues entriesAt carriedEntries entries library front basic laidOut layout hasLayout goodFields agree ownerOn contentIn tagSteps readSteps reading layingSteps writeSteps writing ownLayout editSteps editing
 examples-hold = tt

@@ -20,7 +20,7 @@ use Rattle.format.proofs.Text.{between-facts}
 use Rattle.format.proofs.Letters.{text-letters}
 use Rattle.format.proofs.Fields.{text-nil, alternative-facts}
 use Rattle.format.proofs.Slots.{sound-facts}
-use Rattle.format.proofs.Values.{value-shape, value-text}
+use Rattle.format.proofs.Values.{value-text, value-alternative}
 use Rattle.format.proofs.Sound.{library-tests, fields-parts}
 
 -- an alternative owner is letters behind its first byte
@@ -64,5 +64,5 @@ unfolding known place placeIn numbers shape
 content-whole c s =
     let k = sound-facts c s in
     let behind : Encoded (drop 1 (el c 23)) =
-    elim (value-shape 23 (el c 23) (k .values 23 refl)) [ inl e ↦ rw e (text-letters [] text-nil) | inr e ↦ alternative-whole (el c 23) e ] in
+    elim (value-alternative (el c 23) (k .values 23 refl)) [ inl e ↦ rw e (text-letters [] text-nil) | inr e ↦ alternative-whole (el c 23) e ] in
     (text-letters (el c 1) (value-text 1 (el c 1) refl (k .values 1 refl)), text-letters (el c 22) (value-text 22 (el c 22) refl (k .values 22 refl)), behind)

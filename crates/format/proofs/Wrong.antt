@@ -1,17 +1,17 @@
 -- Wrong readers, writers and editors, and the demand that each breaks. Nothing is said here of `reading`, `writing` or `editing`: whatever
 -- program is of one of these kinds does not keep the demand (specs/Demands.antt), however its proof were made.
 use mathlib.Core.Path.{_≡_, refl, sym, ap, _∙_}
-use Prim.Native.Nat.{ℕ, _/_, _%_, _<_}
+use Prim.Native.Nat.{ℕ, _/_, _%_, _≤_, _<_}
 use native.Mathlib.Omega.{arith}
-use mathlib.Core.Bool.{true, false, _&&_}
-use mathlib.Core.List.{List, [], _∷_}
-use lib.ListN.{length, getD, replicate}
+use mathlib.Core.Bool.{Bool, true, false, not, _&&_}
+use mathlib.Core.List.{List, [], _∷_, _++_}
+use lib.ListN.{length, take, getD, replicate}
 use lib.Dec.{eqb}
 use Rattle.format.specs.Answers.{Answer, Refusal, placed, got, refused, Step, need, needAt, inOrder, Passed, afterwards, andThen, orElse, passed}
-use Rattle.format.specs.Bytes.{isEmpty, all, same, le16, word, part, padWith, trim, strip, upTo, past, xorAll, joined}
+use Rattle.format.specs.Bytes.{isEmpty, all, same, between, le16, word, part, padWith, trim, strip, upTo, past, xorAll, joined}
 use Rattle.format.specs.Pages.{pageSize, goodSize, lockMap, differs, lockedDiffers, count, changed, lockedChanged}
 use Rattle.format.specs.Crc.{crcBit, crcBits, crcByte, crcFrom, crc, covered}
-use Rattle.format.specs.Text.{rows, after, rowsFrom, text}
+use Rattle.format.specs.Text.{rows, after, rowsFrom, text, letter, encode, Encoded}
 use Rattle.format.specs.Fields.{capital, unitByte, isilOf, isil, alternative, isOwner, goodItem, prefixIn, ownerSaid, goodOwner, itemField, packed, basicOwner, ownerField}
 use Rattle.format.specs.Chain.{named, summed, wellFormed, carriable, damageSteps, walk, chain, libraryBlock, otherBlocks, payload, lastField, libraryIn, goodLibrary, libraryBytes, sealed, blockOne}
 use Rattle.format.specs.Elements.{Content, numbers, setInfo, shape, form, value, placeIn, place, known, el, put, clash, valuesAt, sound}
@@ -22,11 +22,12 @@ use Rattle.format.specs.Damage.{Spoilt}
 use Rattle.format.specs.Calls.{readSteps, layingSteps, sheetContent, writeSteps, ownLayout, editSteps, Edited, Reader, Writer, Editor}
 use Rattle.format.specs.Numbers.{oneOf, damageNumbers}
 use Rattle.format.specs.History.{Own, Edit, noted, edited, run, Undone}
-use Rattle.format.specs.Demands.{ReadsExactly, WritesExactly, EditsExactly, ReadsDamage, EditsDamage, ReadsBack, LaysDown, CountsWritten, EveryHistory, SameIsNothing}
+use Rattle.format.specs.Demands.{ReadsExactly, WritesExactly, EditsExactly, ReadsDamage, EditsDamage, TextExactly, ReadsBack, LaysDown, CountsWritten, EveryHistory, SameIsNothing}
 use Rattle.format.proofs.Tests.{never, and-l}
+use Rattle.format.proofs.Letters.{text-letters, letters-text, cut-letters}
 use Rattle.format.proofs.Answers.{worked}
 use Rattle.format.proofs.Damages.{placed-damage, damage-number}
-use Rattle.format.proofs.Pairs.{zeros, withBlocks, isilUs, isilDk, fieldDk, wholeSheet, wholeFront, wholeTag, item2, acquisition, tag2, sheet2}
+use Rattle.format.proofs.Pairs.{zeros, withBlocks, accents, itemSheet, isilUs, isilDk, fieldDk, wholeSheet, wholeFront, wholeTag, item2, acquisition, tag2, sheet2}
 
 -- ---- two sheets, two tags, and a few edits that serve to tell right from wrong
 
@@ -57,6 +58,14 @@ damagedLate = withBlocks (1 ∷ 2 ∷ [])
 abbrev damagedFirst : List ℕ
 damagedFirst = withBlocks (2 ∷ 101 ∷ [])
 
+-- e acute eight times and x: 9 characters, 17 bytes
+abbrev nine : List ℕ
+nine = accents ++ (0x78 ∷ [])
+
+-- how many characters: what is not a tail
+abbrev characters : List ℕ → ℕ
+characters s = count (λ i. not (between 0x80 0xBF (getD s i 0))) (length s)
+
 -- what is computed of them
 record Facts : Type 0 where
   read-whole : inOrder (readSteps pageSize 21 wholeTag) (tt {0}) ≡ got tt
@@ -64,6 +73,7 @@ record Facts : Type 0 where
   write-other : inOrder (writeSteps pageSize otherSheet (zeros 36) (zeros 9)) (tt {0}) ≡ got tt
   write-again : inOrder (writeSteps pageSize wholeSheet wholeTag (zeros 9)) (tt {0}) ≡ got tt
   write-used : inOrder (writeSteps pageSize wholeSheet used (zeros 10)) (tt {0}) ≡ got tt
+  write-nine : inOrder (writeSteps pageSize (itemSheet nine) (zeros 56) (zeros 14)) (tt {0}) ≡ got tt
   edit-item : inOrder (editSteps pageSize 255 wholeTag (zeros 9) 1 item) (tt {0}) ≡ got tt
   edit-same : inOrder (editSteps pageSize 255 wholeTag (zeros 9) 1 (el whole 1)) (tt {0}) ≡ got tt
   edit-owner : inOrder (editSteps pageSize 255 wholeTag (zeros 9) 3 isilUs) (tt {0}) ≡ got tt
@@ -88,6 +98,9 @@ record Facts : Type 0 where
   book-laid : length (laidOut (length tag2) (put (contentIn tag2) 19 [] .slots) (joined (put (contentIn tag2) 19 [] .carried))) ≡ 68
   book-byte : getD tag2 70 0 ≡ 0x35
   new-book-byte : getD (image (length tag2) (put book 19 [])) 70 0 ≡ 0
+  nine-characters : characters (el (sheetContent (itemSheet nine)) 1) ≡ 9
+  nine-byte : getD (el (sheetContent (itemSheet nine)) 1) 0 0 ≡ 0xC3
+  nine-marked : getD (image 56 (sheetContent (itemSheet nine))) 3 0 ≡ 1
   late-size : goodSize pageSize (length damagedLate) && lockMap pageSize (zeros 9) (length damagedLate) ≡ true
   late-parameter : eqb (getD damagedLate 0 0 % 16) 1 ≡ true
   late-check : same (part 19 2 damagedLate) (le16 (crc (covered damagedLate))) ≡ true
@@ -98,13 +111,14 @@ record Facts : Type 0 where
   first-walked : walked damagedFirst ≡ refused (placed 15 34)
 
 facts : Facts
-unfolding item otherSheet used withBlocks isilUs isilDk fieldDk wholeSheet wholeFront wholeTag item2 acquisition tag2 sheet2 need needAt inOrder afterwards andThen orElse passed all same le16 word padWith trim strip upTo past xorAll joined goodSize lockMap differs lockedDiffers count changed lockedChanged crcBit crcBits crcByte crcFrom crc covered rows after rowsFrom text capital unitByte isilOf isil alternative isOwner goodItem prefixIn ownerSaid goodOwner itemField packed basicOwner ownerField named summed wellFormed carriable damageSteps walk chain libraryBlock otherBlocks payload lastField libraryIn goodLibrary libraryBytes sealed blockOne numbers setInfo shape form value placeIn place known put clash valuesAt sound heads bodies sheetOf offsetsFit risingFrom rising cut entriesIn rightSheet find carriedIn contentOf goodValues entriesAt carriedEntries entries library front basic laidOut layout hasLayout goodFields agree ownerOn contentIn tagSteps layingSteps ownLayout readSteps writeSteps editSteps
+unfolding item otherSheet used accents itemSheet withBlocks isilUs isilDk fieldDk wholeSheet wholeFront wholeTag item2 acquisition tag2 sheet2 need needAt inOrder afterwards andThen orElse passed all same le16 word padWith trim strip upTo past xorAll joined goodSize lockMap differs lockedDiffers count changed lockedChanged crcBit crcBits crcByte crcFrom crc covered rows after rowsFrom text capital unitByte isilOf isil alternative isOwner goodItem prefixIn ownerSaid goodOwner itemField packed basicOwner ownerField named summed wellFormed carriable damageSteps walk chain libraryBlock otherBlocks payload lastField libraryIn goodLibrary libraryBytes sealed blockOne numbers setInfo shape form value placeIn place known put clash valuesAt sound heads bodies sheetOf offsetsFit risingFrom rising cut entriesIn rightSheet find carriedIn contentOf goodValues entriesAt carriedEntries entries library front basic laidOut layout hasLayout goodFields agree ownerOn contentIn tagSteps layingSteps ownLayout readSteps writeSteps editSteps
 facts = record {
   read-whole = refl;
   write-whole = refl;
   write-other = refl;
   write-again = refl;
   write-used = refl;
+  write-nine = refl;
   edit-item = refl;
   edit-same = refl;
   edit-owner = refl;
@@ -129,6 +143,9 @@ facts = record {
   book-laid = refl;
   book-byte = refl;
   new-book-byte = refl;
+  nine-characters = refl;
+  nine-byte = refl;
+  nine-marked = refl;
   late-size = refl;
   late-parameter = refl;
   late-check = refl;
@@ -205,6 +222,36 @@ module _ (edit : Editor) (damage : EditsDamage edit) where
   pub editor-placing-others : (p : ℕ) (t locks : List ℕ) (n : ℕ) (s buffer : List ℕ) (k at : ℕ) → oneOf damageNumbers k ≡ false → edit p t locks n s buffer .answer ≡ refused (placed k at) → ⊥
   editor-placing-others p t locks n s buffer k at o e = never (cc (damage-number t k at (damage p t locks n s buffer k at .0 e .1 .damage)))
 
+-- ==== a rule of text that takes an overlong form, a surrogate, a value above 10FFFF, a letter that is cut, or 7F, or refuses C2 80: demand 2,
+-- what text is
+
+module _ (rule : List ℕ → Bool) (exact : TextExactly rule) where
+  takes-no-other : (s : List ℕ) → text s ≡ false → rule s ≡ true → ⊥
+  takes-no-other s n e = never (cc (letters-text s (exact s .0 e)))
+
+  pub rule-taking-overlong : rule (0xC0 ∷ 0xAF ∷ []) ≡ true → ⊥
+  unfolding text rowsFrom rows after
+  rule-taking-overlong = takes-no-other _ refl
+
+  pub rule-taking-surrogate : rule (0xED ∷ 0xA0 ∷ 0x80 ∷ []) ≡ true → ⊥
+  unfolding text rowsFrom rows after
+  rule-taking-surrogate = takes-no-other _ refl
+
+  pub rule-taking-above : rule (0xF4 ∷ 0x90 ∷ 0x80 ∷ 0x80 ∷ []) ≡ true → ⊥
+  unfolding text rowsFrom rows after
+  rule-taking-above = takes-no-other _ refl
+
+  pub rule-taking-cut : (s : List ℕ) (v k : ℕ) → Encoded s → letter v ≡ true → 0 < k → k < length (encode v) → rule (s ++ take k (encode v)) ≡ true → ⊥
+  rule-taking-cut s v k c l h m = takes-no-other _ (cut-letters s v k c l h m)
+
+  pub rule-taking-7f : rule (0x7F ∷ []) ≡ true → ⊥
+  unfolding text rowsFrom rows after
+  rule-taking-7f = takes-no-other _ refl
+
+  pub rule-refusing-c2-80 : rule (0xC2 ∷ 0x80 ∷ []) ≡ false → ⊥
+  unfolding text rowsFrom rows after
+  rule-refusing-c2-80 n = never (cc (exact (0xC2 ∷ 0x80 ∷ []) .1 (text-letters _ refl)))
+
 -- ==== a reader that gives one sheet for every tag that it reads: demand 2, what is written reads back
 
 pub one-sheet-for-all : (read : Reader) (write : Writer)
@@ -254,6 +301,15 @@ module _ (write : Writer) (exact : WritesExactly write) (lays : LaysDown write) 
       let w = leaves wholeSheet used (zeros 10) (facts .write-used) in
       let z : _≡_ {A = ℕ} 0 0xFF =
       sym (facts .used-byte) ∙ ap (λ (l : List ℕ). getD l 36 0) (sym (w .2)) ∙ keeps pageSize wholeSheet used (zeros 10) (w .0) (w .1) 36 (omega (arith, facts .used-laid)) in
+      omega arith
+
+  -- up to 16 characters in the basic block, in place of 16 bytes
+  pub writer-counting-characters : ((p : ℕ) (s t locks : List ℕ) (k : ℕ) → write p s t locks .answer ≡ got k → characters (el (sheetContent s) 1) ≤ 16
+      → getD (write p s t locks .tag) 3 0 ≡ getD (el (sheetContent s) 1) 0 0) → ⊥
+  writer-counting-characters keeps =
+      let w = leaves (itemSheet nine) (zeros 56) (zeros 14) (facts .write-nine) in
+      let z : _≡_ {A = ℕ} 1 0xC3 =
+      sym (facts .nine-marked) ∙ ap (λ (l : List ℕ). getD l 3 0) (sym (w .2)) ∙ keeps pageSize (itemSheet nine) (zeros 56) (zeros 14) (w .0) (w .1) (omega (arith, facts .nine-characters)) ∙ facts .nine-byte in
       omega arith
 
 -- ==== an editor that touches nothing, pretends at later edits, invents its count, or keeps old bytes: demand 3, after each edit
