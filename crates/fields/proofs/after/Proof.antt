@@ -17,8 +17,9 @@ within-requires c κs = search needs
 returns : tie.Need-returns
 unfolding rows all
 returns c =
-    let h = between-facts 0x20 0x7E _ (sym (c .before .within .ensures) ∙ c .if1 .taken) in
-    sym (leads 0 (c .before .before .args .b) refl refl (h .0) (h .1))
+    let b = c .before .before .args .b in
+    let h = between-facts 0x20 0x7E b (sym (c .before .within .ensures) ∙ c .if1 .taken) in
+    sym (leads 0 b refl refl (h .0) (h .1))
 
 nothing-requires : tie.Need-nothing-requires
 nothing-requires c κs = search needs
@@ -29,8 +30,8 @@ returns-2 c =
     let w = c .before .before .before in
     let b = w .before .args .b in
     c .nothing .ensures
-    ∙ ⊎-elim (λ h. sym (leads-none 0 b 0 0x20 refl refl (omega arith) h)) (λ h. sym (leads-none 1 b 0x7F 0xC2 refl refl (omega arith) (c .before .if2 .taken)))
-    (between-no 0x20 0x7E b (sym (w .within .ensures) ∙ c .before .before .if1 .left))
+    ∙ ⊎-elim (λ h. sym (leads-none 0 b 0 0x20 refl refl (omega arith) (omega arith))) (λ h. sym (leads-none 1 b 0x7F 0xC2 refl refl (omega arith) (omega arith)))
+    (between-no _ _ b (sym (w .within .ensures) ∙ c .before .before .if1 .left))
 
 returns-3 : tie.Need-returns-3
 unfolding rows all
