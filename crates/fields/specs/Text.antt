@@ -1,8 +1,7 @@
 -- What is due of a row of text (`format`, specs/Text.antt), as the code holds it in three numbers.
 use Prim.Native.Nat.{ℕ, zero, suc}
 use mathlib.Core.List.{List, [], _∷_}
-use mathlib.Core.Path.{_≡_}
-use Rattle.format.specs.Text.{Range, _to_, tail, rowsFrom}
+use Rattle.format.specs.Text.{Range, _to_, tail}
 use Rattle.fields.specs.declared.Due.{Due}
 
 abbrev pub tails : ℕ → List Range
@@ -16,7 +15,3 @@ ranges (suc n) r = r ∷ tails n
 
 abbrev pub dueOf : Due → List Range
 dueOf d = ranges (d .0) (d .1 to d .2)
-
--- where d is due and then comes b, e is due
-abbrev pub Takes : Due → ℕ → Due → Type 0
-Takes d b e = (s : List ℕ) → rowsFrom (dueOf e) s ≡ rowsFrom (dueOf d) (b ∷ s)

@@ -1,14 +1,14 @@
 // Judging fields that are parts of a tag or of a sheet. The slices are lent, nothing is copied or changed.
 // What each answer means is said in `specs/Forms.antt`, over the definitions of `format`.
 ghost use mathlib.Core.Path.{_≡_};
-ghost use mathlib.Core.Bool.{_||_};
+ghost use mathlib.Core.Bool.{false, _||_};
 ghost use lib.ListN.{length, take, drop, getD};
 ghost use Rattle.format.specs.Bytes.{isEmpty, all, between, strip, upTo, past};
 ghost use Rattle.format.specs.Text.{rows, nothing, after, text};
 ghost use Rattle.format.specs.Fields.{capital, unitByte, isilOf, isil, alternative, isOwner, marked, prefixIn};
 ghost use Rattle.format.specs.Numbers.{numberOf};
 ghost use Rattle.fields.specs.declared.OwnerField.the-variants as owner;
-ghost use Rattle.fields.specs.Text.{dueOf, Takes};
+ghost use Rattle.fields.specs.Text.{dueOf};
 ghost use Rattle.fields.specs.Forms.{itemForm, ownerForm, libraryForm, itemGiven, ownerGiven, libraryGiven};
 
 // What a good item field of the basic block holds: the marker 01, or text of `len` bytes, 0 for nothing.
@@ -94,13 +94,10 @@ fn nothing() -> Due
     Due(1, 0xFF, 0x00)
 }
 
-// What is due behind b, where nothing was: the rows of RFC 3629, without 00 to 1F and 7F.
+// What is due behind b, a byte outside 20 to 7E: the rows of RFC 3629 that have more than one byte.
 fn after(b: u8) -> Due
-    ensures { λ r. ⌜ dueOf r ≡ after b rows ⌝ }
+    ensures { λ r. ⌜ (between 0x20 0x7E b ≡ false → dueOf r ≡ after b rows) ⌝ }
 {
-    if within(0x20, 0x7E, b) {
-        return Due(0, 0x80, 0xBF);
-    }
     if b < 0xC2 {
         return nothing();
     }
@@ -128,27 +125,22 @@ fn after(b: u8) -> Due
     nothing()
 }
 
-// What is due behind b, where this was.
-fn next(due: Due, b: u8) -> Due
-    ensures { λ r. ⌜ Takes due b r ⌝ }
-{
-    if due.0 == 0 {
-        return after(b);
-    }
-    if within(due.1, due.2, b) {
-        return Due(due.0 - 1, 0x80, 0xBF);
-    }
-    nothing()
-}
-
-// Is s text, well-formed UTF-8 without 00 to 1F and 7F? At its end nothing may be due.
+// Is s text, well-formed UTF-8 without 00 to 1F and 7F? One pass: each byte is what is due, or a letter by itself, or leads one. At the end
+// nothing may be due.
 pub fn text(s: &[u8]) -> bool
     ensures { λ r. ⌜ r ≡ text (now (s .entry)) ⌝ }
 {
     let mut due = Due(0, 0x80, 0xBF);
     let mut i: usize = 0;
     while i < s.len() {
-        due = next(due, s[i]);
+        if 0 < due.0 {
+            if !within(due.1, due.2, s[i]) {
+                return false;
+            }
+            due = Due(due.0 - 1, 0x80, 0xBF);
+        } else if !within(0x20, 0x7E, s[i]) {
+            due = after(s[i]);
+        }
         i += 1;
     }
     due.0 == 0
