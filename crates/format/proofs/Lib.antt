@@ -29,6 +29,7 @@ pub mod Laying
 pub mod Writes
 pub mod Edits
 pub mod Histories
+pub mod Before
 pub mod Promises
 pub mod Pairs
 pub mod Wrong

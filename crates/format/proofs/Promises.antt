@@ -8,7 +8,7 @@ use mathlib.Core.Bool.{Bool, true, false, _&&_}
 use mathlib.Core.List.{List, _++_}
 use lib.ListN.{length, take, drop}
 use borrow.Author.Tests.{le-leb}
-use Rattle.format.specs.Answers.{Answer, Refusal, plain, placed, got, refused, Step, inOrder}
+use Rattle.format.specs.Answers.{Answer, Refusal, plain, placed, got, refused, Step, inOrder, Passed}
 use Rattle.format.specs.Bytes.{all, between, bytes, filled, joined}
 use Rattle.format.specs.Pages.{pageSize, goodSize, lockMap, changed, openPages, Kept}
 use Rattle.format.specs.Text.{text, letter, encode, Encoded}
@@ -19,6 +19,7 @@ use Rattle.format.specs.Layout.{ownerWidth, laidOut, image, fits}
 use Rattle.format.specs.Reading.{itemIn, ownerIn, walked, blocksIn, libraryOn, contentIn, Readable}
 use Rattle.format.specs.Damage.{Damaged}
 use Rattle.format.specs.Calls.{sheetIn, readSteps, reading, sheetContent, writeSteps, writing, ownLayout, editSteps, Edited, editing}
+use Rattle.format.specs.Before.{textBefore, readStepsBy, readingBy, writeStepsBy, writingBy, editStepsBy, editingBy}
 use Rattle.format.specs.Numbers.{oneOf, damageNumbers, Gives, gives, oneGives, readGives, writeGives, editGives, Each, numberOf, resultOf, Reads, Writes, Edits, ReadsC, WritesC, EditsC}
 use Rattle.format.specs.History.{Own, State, begin, run}
 use Rattle.format.specs.Demands.{Exact, ReadsExactly, WritesExactly, EditsExactly, ReadsDamage, EditsDamage, ReadsUnchanged, WritesUnchanged, EditsUnchanged, TextExactly, ReadsBack, LaysDown, CountsWritten, CountsEdited, PutsElement, EveryHistory, SameIsNothing}
@@ -45,6 +46,7 @@ use Rattle.format.proofs.Laying.{laid-open, layout-own}
 use Rattle.format.proofs.Writes.{write-passed, written-own, written-length, written-sheet, written-passes, own-written}
 use Rattle.format.proofs.Edits.{edit-passed, own-elements, edit-passes, passed-edit, same-length, edited-own, same-accepted}
 use Rattle.format.proofs.Histories.{Good, history, begun}
+use Rattle.format.proofs.Before.{read-by-text, write-by-text, edit-by-text, read-same-or-six, write-same-or-nine, edit-same-or-six-nine, read-still, write-still, edit-still}
 use Rattle.format.proofs.Given.{answer-same, read-same, edit-same}
 
 -- ==== Demand 1: one answer and one content for each buffer, on every input; a refusal changes nothing and gives only its number
@@ -276,6 +278,42 @@ unfolding writing
 writing-counts p s t locks k e =
     let new : List ℕ = image (length t) (sheetContent s) in
     sym (write-passed p s t locks (changed p t new) k e .1) ∙ ap (changed p t) (sym (afterwards-got _ k new t e))
+
+-- Document 02, E4. By the rule of text, the calls of specs/Before.antt are these calls;
+pub reading-by-text : (p : ℕ) (t buffer : List ℕ) → readingBy text p t buffer ≡ reading p t buffer
+reading-by-text = read-by-text
+
+pub writing-by-text : (p : ℕ) (s t locks : List ℕ) → writingBy text p s t locks ≡ writing p s t locks
+writing-by-text = write-by-text
+
+pub editing-by-text : (p : ℕ) (t locks : List ℕ) (n : ℕ) (s buffer : List ℕ) → editingBy text p t locks n s buffer ≡ editing p t locks n s buffer
+editing-by-text = edit-by-text
+
+-- by that of document 01, a sheet that passed before still passes, so does a tag and an edit, with the same answer and the same buffers;
+pub sheet-passes-still : (p : ℕ) (s t locks : List ℕ) → Passed (writeStepsBy textBefore p s t locks)
+    → Passed (writeSteps p s t locks) × (writing p s t locks ≡ writingBy textBefore p s t locks)
+sheet-passes-still = write-still
+
+pub tag-passes-still : (p : ℕ) (t buffer : List ℕ) → Passed (readStepsBy textBefore p (length buffer) t)
+    → Passed (readSteps p (length buffer) t) × (reading p t buffer ≡ readingBy textBefore p t buffer)
+tag-passes-still = read-still
+
+pub edit-passes-still : (p : ℕ) (t locks : List ℕ) (n : ℕ) (s buffer : List ℕ) → Passed (editStepsBy textBefore p (length buffer) t locks n s)
+    → Passed (editSteps p (length buffer) t locks n s) × (editing p t locks n s buffer ≡ editingBy textBefore p t locks n s buffer)
+edit-passes-still = edit-still
+
+-- and on every input the outcome is what it was, or it was the refusal 9 of a sheet, 6 of a tag, 6 or 9 of an edit
+pub writing-same-or-nine : (p : ℕ) (s t locks : List ℕ)
+    → (writing p s t locks ≡ writingBy textBefore p s t locks) ⊎ (writingBy textBefore p s t locks .answer ≡ refused (plain 9))
+writing-same-or-nine = write-same-or-nine
+
+pub reading-same-or-six : (p : ℕ) (t buffer : List ℕ)
+    → (reading p t buffer ≡ readingBy textBefore p t buffer) ⊎ (readingBy textBefore p t buffer .answer ≡ refused (plain 6))
+reading-same-or-six = read-same-or-six
+
+pub editing-same-or-six-nine : (p : ℕ) (t locks : List ℕ) (n : ℕ) (s buffer : List ℕ) → let old = editingBy textBefore p t locks n s buffer in
+    (editing p t locks n s buffer ≡ old) ⊎ ((old .answer ≡ refused (plain 6)) ⊎ (old .answer ≡ refused (plain 9)))
+editing-same-or-six-nine = edit-same-or-six-nine
 
 -- ==== Demand 3: every history of edits
 

@@ -12,6 +12,7 @@ pub mod Layout
 pub mod Reading
 pub mod Damage
 pub mod Calls
+pub mod Before
 pub mod Numbers
 pub mod History
 pub mod Demands
