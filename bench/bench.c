@@ -264,18 +264,18 @@ static void make_row_sheet(const struct row *row, int which, struct inputs *in)
     make_sheet(&in->sheets[which], entries, n);
 }
 
-/* Edits change the length of block 1, and so move the other blocks of a FEW tag;
-   where there is no block 1 they change the first 34 bytes. The second value is
-   the one that the sheets have. Those of ACCENTS are German, Danish, Czech and
-   Greek words, with a dash of three bytes and a clef of four. */
+/* Edits change the length of block 1, and so move the other blocks of a FEW
+   tag; where there is no block 1 they change the first 34 bytes. The second
+   value is the one that the sheets have. Those of ACCENTS are German, Danish,
+   Czech and Greek words, with a dash of three bytes and a clef of four. */
 static void make_values(const struct row *row, struct inputs *in)
 {
     static const char *const plain[2] = { "3000000099", "1000000056" };
     static const char *const few[2] = { "978-3-16", "978-3-16-148" };
     static const char *const accents[2] = {
         "\303\234bergr\303\266\303\237e\342\200\223\303\226l, \303\205lborg, "
-        "P\305\231\303\255b\304\233hy, \316\221\316\270\316\256\316\275\316\261 "
-        "\360\235\204\236; ",
+        "P\305\231\303\255b\304\233hy, "
+        "\316\221\316\270\316\256\316\275\316\261 \360\235\204\236; ",
         "Stra\303\237e\342\200\223B\303\274cher, \303\206r\303\270, "
         "\304\214e\305\241tina pro d\304\233ti, "
         "\316\225\316\273\316\273\316\267\316\275\316\271\316\272\316\254 "
