@@ -126,13 +126,56 @@ static int is_capital(uint8_t b)
     return b >= 'A' && b <= 'Z';
 }
 
+/* Whether a byte of UTF-8 goes on with a character that has begun. */
+static int goes_on(uint8_t b)
+{
+    return (b & 0xC0) == 0x80;
+}
+
+/* Whether b is the second byte of a character of three or four: what has a
+   shorter form is none, nor a surrogate, nor what lies above 10FFFF. */
+static int is_second(uint8_t first, uint8_t b)
+{
+    switch (first) {
+    case 0xE0: return b >= 0xA0 && b <= 0xBF;
+    case 0xED: return b >= 0x80 && b <= 0x9F;
+    case 0xF0: return b >= 0x90 && b <= 0xBF;
+    case 0xF4: return b >= 0x80 && b <= 0x8F;
+    default: return goes_on(b);
+    }
+}
+
+/* The length of the character of two to four bytes that begins here, as RFC
+   3629 has it, left bytes before the end and left at least 1; 0 where none
+   does. */
+static size_t character_len(const uint8_t *at, size_t left)
+{
+    uint8_t first = at[0];
+
+    if (first < 0xE0)
+        return first >= 0xC2 && left >= 2 && goes_on(at[1]) ? 2 : 0;
+    if (first < 0xF0)
+        return left >= 3 && is_second(first, at[1]) && goes_on(at[2]) ? 3 : 0;
+    return first <= 0xF4 && left >= 4 && is_second(first, at[1])
+        && goes_on(at[2]) && goes_on(at[3]) ? 4 : 0;
+}
+
+/* Whether these are UTF-8, without 00 to 1F and 7F. */
 static int is_text(const uint8_t *bytes, size_t len)
 {
-    size_t i;
+    size_t at = 0;
 
-    for (i = 0; i < len; i++)
-        if (bytes[i] < 0x20 || bytes[i] > 0x7E)
-            return 0;
+    while (at < len) {
+        if (bytes[at] >= 0x20 && bytes[at] <= 0x7E) {
+            at++;
+        } else {
+            size_t size = character_len(bytes + at, len - at);
+
+            if (size == 0)
+                return 0;
+            at += size;
+        }
+    }
     return 1;
 }
 

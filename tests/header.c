@@ -2,8 +2,9 @@
    made by its words are carried, others are not; the pages that differ from a
    copy are as many as the call says; a half-sent tag is mended by writing again;
    the place is that of the first damaged block, and is given with no other
-   answer; words and text are as its table, sums and rules say, and fit into the
-   room that it says suffices.
+   answer; the text of elements is UTF-8, and its limits count bytes; words and
+   their text are as its table, sums and rules say, and fit into the room that
+   it says suffices.
    Prints what is wrong, or the first of it, and ends with 1; or one line, and
    0. */
 #include "urpanella.h"
@@ -343,6 +344,109 @@ static void places(void)
                "URP_HAS_PLACE is wrong of an answer");
 }
 
+/* ---- the text of elements ---- */
+
+enum { SHORT_TAG = 32 };
+
+/* The answer to setting an element on a tag of 4 and 5. Removing it hands back
+   what was set, byte for byte. */
+static uint32_t set(size_t tag_len, uint32_t number, const void *value,
+                    size_t len)
+{
+    static const uint8_t sheet[] = {
+        2, 0,  4, 10, 0, 4,  5, 14, 0, 1,  1, 0, 1, 0,  0x10
+    };
+    uint8_t tag[TAG] = {0}, old[URP_OLD_MAX];
+    size_t locks_len = tag_len / URP_PAGE, pages, used, place;
+    uint32_t answer;
+
+    expect(urp_write(sheet, sizeof sheet, tag, tag_len, open_pages, locks_len,
+                     &pages) == URP_DONE, "a sheet of 4 and 5 is refused");
+    answer = urp_edit(tag, tag_len, open_pages, locks_len, number,
+                      (const uint8_t *)value, len, old, sizeof old,
+                      &pages, &used, &place);
+    if (answer != URP_DONE)
+        return answer;
+    expect(urp_edit(tag, tag_len, open_pages, locks_len, number, NULL, 0,
+                    old, sizeof old, &pages, &used, &place) == URP_DONE
+               && used == len && memcmp(old, value, len) == 0,
+           "a text does not come back as it was set");
+    return answer;
+}
+
+/* Sets a value as each element that is text, and reads it as the item field of
+   block 1. Behind the value stands what a cut character would go on with. */
+static void try_value(const char *value, int is_text)
+{
+    uint32_t right = is_text ? URP_DONE : URP_VALUE;
+    size_t len = strlen(value);
+    uint8_t bytes[16], *text = bytes + 1;
+    struct call c;
+
+    memset(bytes, 0x80, sizeof bytes);
+    bytes[0] = 2;  /* begins a 23, or is the media format */
+    memcpy(text, value, len);
+    expect(set(TAG, URP_ELEMENT_PRIMARY_ITEM, text, len) == right
+               && set(TAG, URP_ELEMENT_ALTERNATIVE_ITEM, text, len) == right
+               && set(TAG, URP_ELEMENT_ALTERNATIVE_OWNER, bytes, 1 + len)
+                   == right,
+           is_text ? "a text is refused" : "what is no text is set");
+    make_call_on_block_1(&c, bytes, 1 + len);
+    try_read(&c, is_text ? URP_DONE : URP_FIELD, PRESET);
+}
+
+static void utf8(void)
+{
+    /* the first and last of each length and beside the surrogates, C2 9F, all
+       lengths in a row, and two spellings of one letter */
+    static const char *const good[] = {
+        "\302\200", "\337\277", "\340\240\200", "\355\237\277",
+        "\356\200\200", "\357\277\277", "\360\220\200\200",
+        "\364\217\277\277", "\302\237",
+        "x\303\251\342\200\223\360\235\204\236x", "\303\251", "e\314\201"
+    };
+    /* what has a shorter form, surrogates, what lies above 10FFFF, what is cut
+       or goes on otherwise, and control characters */
+    static const char *const bad[] = {
+        "\300\257", "\301\277", "\340\237\277", "\360\217\277\277",
+        "\355\240\200", "\355\240\200\355\260\200", "\364\220\200\200",
+        "\365\200\200\200", "\303", "x\342\200", "\360\235\204", "\303x",
+        "\303\300", "\342\200x", "\360\235x\236", "\360\235\204x",
+        "\251", "\303\251\251", "x\177", "\303\251\037"
+    };
+    size_t i;
+
+    for (i = 0; i < sizeof good / sizeof good[0]; i++)
+        try_value(good[i], 1);
+    for (i = 0; i < sizeof bad / sizeof bad[0]; i++)
+        try_value(bad[i], 0);
+}
+
+static void texts(void)
+{
+    /* eight times an e with an acute accent, and one character more */
+    static const char eight[] =
+        "\303\251\303\251\303\251\303\251\303\251\303\251\303\251\303\251x";
+    unsigned number;
+    uint8_t byte;
+
+    utf8();
+    for (number = 0; number <= 0xFF; number++) {
+        byte = (uint8_t)number;
+        expect(set(SHORT_TAG, URP_ELEMENT_PRIMARY_ITEM, &byte, 1)
+                   == (number >= 0x20 && number <= 0x7E ? URP_DONE : URP_VALUE),
+               "another byte than 20 to 7E is a text by itself");
+    }
+    expect(set(SHORT_TAG, URP_ELEMENT_PRIMARY_ITEM, eight, 16) == URP_DONE,
+           "16 bytes of text do not fit");
+    expect(set(SHORT_TAG, URP_ELEMENT_PRIMARY_ITEM, eight, 17) == URP_LARGE,
+           "a limit counts characters");
+    expect(set(SHORT_TAG, URP_ELEMENT_PRIMARY_ITEM, eight, 15) == URP_VALUE,
+           "a letter may be cut");
+    expect(set(TAG, URP_ELEMENT_OWNER, "DK-\303\251", 5) == URP_VALUE,
+           "an ISIL has another alphabet");
+}
+
 /* ---- UHF words ---- */
 
 /* The longest text that is tried; some items more than any output has, and what
@@ -549,9 +653,10 @@ int main(void)
     blocks();
     sending();
     places();
+    texts();
     uhf_words();
     if (wrong > 0)
         return 1;
-    puts("blocks, pages, places and words are as the header says");
+    puts("blocks, pages, places, texts and words are as the header says");
     return 0;
 }
