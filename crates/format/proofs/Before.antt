@@ -8,7 +8,7 @@ use mathlib.Core.List.{List, [], _∷_, _++_}
 use lib.Dec.{eqb, leb}
 use lib.ListN.{length, getD, drop, set, replicate}
 use borrow.Author.Tests.{eqb-true}
-use Rattle.format.specs.Answers.{Answer, Refusal, plain, got, refused, Step, need, needAt, inOrder, andThen, orElse, Passed}
+use Rattle.format.specs.Answers.{Refusal, plain, got, refused, Step, need, needAt, inOrder, andThen, orElse, Passed}
 use Rattle.format.specs.Bytes.{if_then_else_, isEmpty, all, same, le16, word, trim, strip, upTo, past, xorAll}
 use Rattle.format.specs.Pages.{count, changed}
 use Rattle.format.specs.Text.{rows, after, rowsFrom, text}
@@ -18,7 +18,7 @@ use Rattle.format.specs.Elements.{numbers, required, setInfo, shape, for
 use Rattle.format.specs.Sheet.{Entry, entriesIn, find, present, goodValues}
 use Rattle.format.specs.Layout.{image}
 use Rattle.format.specs.Reading.{itemIn, ownerIn, blocksIn, goodFields, contentIn, tagSteps}
-use Rattle.format.specs.Calls.{sheetIn, readSteps, ReadOutcome, reading, sheetContent, writeSteps, WriteOutcome, writing, editSteps, Edited, EditOutcome, editing}
+use Rattle.format.specs.Calls.{readSteps, ReadOutcome, reading, writeSteps, WriteOutcome, writing, editSteps, Edited, EditOutcome, editing}
 use Rattle.format.specs.Before.{textBefore, alternativeBy, isOwnerBy, goodOwnerBy, goodLibraryBy, goodFieldsBy, shapeBy, formBy, valueBy, goodValuesBy, readStepsBy, readingBy, writeStepsBy, writingBy, editStepsBy, editingBy}
 use Rattle.format.proofs.Tests.{never, and-l, and-r, and-i, or-l, or-r, or-inv, all-mono}
 use Rattle.format.proofs.Answers.{works, worked}

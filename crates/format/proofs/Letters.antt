@@ -5,22 +5,22 @@ use mathlib.Core.Logic.{_⊎_, inl, inr}
 use Prim.Native.Nat.{ℕ, zero, suc, _+_, _-_, _*_, _/_, _%_, _≤_, _<_}
 use native.Mathlib.Omega.{arith}
 use mathlib.Core.Bool.{Bool, true, false, not, _&&_, _||_}
-use mathlib.Core.List.{List, [], _∷_, _++_, map, append-assoc, append-nil}
+use mathlib.Core.List.{List, [], _∷_, _++_, append-assoc, append-nil}
 use lib.Dec.{leb, ltb, eqb}
 use lib.ListN.{length, take}
 use borrow.Author.Tests.{leb-true, leb-false, ltb-true, eqb-false, le-leb, lt-leb, ne-eqb}
 use Rattle.format.specs.Bytes.{if_then_else_, all, between, joined}
-use Rattle.format.specs.Text.{Range, _to_, inside, tail, Row, _then_, rows, nothing, after, rowsFrom, text, scalar, control, letter, six, encode, encodings, Encoded}
+use Rattle.format.specs.Text.{Range, _to_, tail, Row, _then_, rows, after, rowsFrom, text, scalar, control, letter, six, encode, encodings, Encoded}
 use Rattle.format.proofs.Tests.{le-or-lt, never, and-l, and-r, and-i, and-iff, not-t, or-inv, or-false, or-f}
 use Rattle.format.proofs.Text.{between-i, between-facts, between-over, between-under, between-no, leads}
 
 -- ---- what a letter is
 
-pub record Letter (v : ℕ) : Type 0 where
-  pub low : 0x20 ≤ v
-  pub seen : v ≡ 0x7F → ⊥
-  pub top : v ≤ 0x10FFFF
-  pub whole : (v < 0xD800) ⊎ (0xDFFF < v)
+record Letter (v : ℕ) : Type 0 where
+  low : 0x20 ≤ v
+  seen : v ≡ 0x7F → ⊥
+  top : v ≤ 0x10FFFF
+  whole : (v < 0xD800) ⊎ (0xDFFF < v)
 
 letter-facts : (v : ℕ) → letter v ≡ true → Letter v
 unfolding letter scalar control

@@ -1,21 +1,19 @@
 -- The texts of a tag that reads, and of elements, are whole letters: each field is judged by itself.
-use mathlib.Core.Path.{_≡_, refl, sym, ap, _∙_}
+use mathlib.Core.Path.{_≡_, refl}
 use mathlib.Core.Logic.{_⊎_, inl, inr}
 use Prim.Native.Nat.{ℕ}
-use mathlib.Core.Bool.{Bool, true, false, _&&_, _||_}
+use mathlib.Core.Bool.{true, _||_}
 use native.Mathlib.Omega.{arith}
 use mathlib.Core.List.{List, [], _∷_}
-use lib.Dec.{leb}
-use lib.ListN.{drop, getD}
-use lib.Seq.{drop-drop, getD-drop}
+use lib.ListN.{drop}
+use lib.Seq.{drop-drop}
 use borrow.Author.Tests.{ne-eqb, le-leb}
-use Rattle.format.specs.Bytes.{if_then_else_, isEmpty, same}
+use Rattle.format.specs.Bytes.{isEmpty, same}
 use Rattle.format.specs.Text.{text, Encoded}
-use Rattle.format.specs.Fields.{isilOf, alternate, alternative, isOwner, marker, marked, goodItem, prefixIn, goodOwner}
+use Rattle.format.specs.Fields.{alternate, alternative, isOwner, marked, goodItem, goodOwner}
 use Rattle.format.specs.Elements.{Content, numbers, placeIn, place, known, el, shape, sound}
-use Rattle.format.specs.Reading.{itemIn, ownerIn, blocksIn, libraryOn, Readable}
-use Rattle.format.proofs.Tests.{never, and-r, or-inv, same-eq}
-use Rattle.format.proofs.Strings.{empty-of}
+use Rattle.format.specs.Reading.{itemIn, ownerIn, libraryOn, Readable}
+use Rattle.format.proofs.Tests.{never, or-inv}
 use Rattle.format.proofs.Text.{between-facts}
 use Rattle.format.proofs.Letters.{text-letters}
 use Rattle.format.proofs.Fields.{text-nil, alternative-facts}

@@ -15,7 +15,7 @@ use Rattle.format.specs.Elements.{numbers, required, shape, known, el, p
 use Rattle.format.specs.Sheet.{Entry, entriesIn, present}
 use Rattle.format.specs.Layout.{image}
 use Rattle.format.specs.Reading.{itemIn, ownerIn, blocksIn, contentIn}
-use Rattle.format.specs.Calls.{sheetIn, readSteps, sheetContent, writeSteps, editSteps, Edited, ReadOutcome, WriteOutcome, EditOutcome, Reader, Writer, Editor}
+use Rattle.format.specs.Calls.{sheetIn, readSteps, sheetContent, writeSteps, editSteps, Edited, Reader, Writer, Editor}
 
 -- text is bytes 20 to 7E hex
 unfoldable pub textBefore : List ℕ → Bool

@@ -1,5 +1,5 @@
--- Text: document 02, E4. Well-formed UTF-8 as RFC 3629 defines it, without 00 to 1F and 7F. The RFC's syntax (section 4) decides. Its code
--- points and their encoding (section 3) stand behind it: `text-exactly` holds the one against the other. No rule of text stands elsewhere.
+-- Text: document 02, E4. Well-formed UTF-8 as RFC 3629 defines it, without 00 to 1F and 7F; nothing else here knows what text is. The RFC's
+-- syntax (section 4) decides. Its code points and their encoding (section 3) stand behind it: `text-exactly` says that both are the same.
 use Prim.Native.Nat.{ℕ, _+_, _/_, _%_}
 use mathlib.Core.Path.{_≡_}
 use mathlib.Core.Bool.{Bool, true, false, not, _&&_, _||_}
@@ -30,15 +30,19 @@ infix 60 _then_
 pub data Row : Type 0 where
   _then_ : Range → List Range → Row
 
--- UTF8-1 (without 00 to 1F and 7F), UTF8-2, UTF8-3, UTF8-4
+-- UTF8-char = UTF8-1 / UTF8-2 / UTF8-3 / UTF8-4
 unfoldable pub rows : List Row
 rows =
+    -- UTF8-1, without 00 to 1F and 7F
     (0x20 to 0x7E then []) ∷
+    -- UTF8-2
     (0xC2 to 0xDF then (tail ∷ [])) ∷
+    -- UTF8-3
     (only 0xE0 then (0xA0 to 0xBF ∷ tail ∷ [])) ∷
     (0xE1 to 0xEC then (tail ∷ tail ∷ [])) ∷
     (only 0xED then (0x80 to 0x9F ∷ tail ∷ [])) ∷
     (0xEE to 0xEF then (tail ∷ tail ∷ [])) ∷
+    -- UTF8-4
     (only 0xF0 then (0x90 to 0xBF ∷ tail ∷ tail ∷ [])) ∷
     (0xF1 to 0xF3 then (tail ∷ tail ∷ tail ∷ [])) ∷
     (only 0xF4 then (0x80 to 0x8F ∷ tail ∷ tail ∷ [])) ∷
