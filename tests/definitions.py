@@ -21,7 +21,6 @@ NUMBER = re.compile(r'(?<![\w.·{])(?<!Type )(?:0x[0-9A-Fa-f]+|\d+)(?![\w}])')
 
 # Changes that leave every call as it is: file, the line as it is then, grounds.
 SAME = [
-    ('format/Bytes.antt', 'infix 6 if_then_else_', 'how the operator binds; no rule'),
     ('format/Chain.antt', 'idOf b = word (getD b 1 1) (getD b 2 0)', 'a block of fewer than 3 bytes is damage whatever its ID'),
     ('format/Chain.antt', 'idOf b = word (getD b 1 0) (getD b 2 1)', 'a block of fewer than 3 bytes is damage whatever its ID'),
     ('format/Elements.antt', 'placeIn [] n = 1', 'a place behind the list is no place, however far behind'),
@@ -47,14 +46,14 @@ def files():
 
 
 def changes(names):
-    """(file, its text so changed, the changed line) for each number that is not in a comment or a `use`."""
+    """(file, its text so changed, the changed line) for each number that is not in a comment or a `use`, nor says how an operator binds."""
     for name, path in files():
         if names and name not in names:
             continue
         text, place = path.read_text(encoding='utf8'), 0
         for line in text.splitlines(keepends=True):
             code = line.split('--')[0]
-            for match in [] if code.startswith('use ') else NUMBER.finditer(code):
+            for match in [] if code.startswith(('use ', 'infix ')) else NUMBER.finditer(code):
                 at, end, new = place + match.start(), place + match.end(), raised(match.group())
                 yield name, text[:at] + new + text[end:], (line[:match.start()] + new + line[match.end():]).strip()
             place += len(line)
