@@ -9,7 +9,9 @@ pub mod faults;
 pub mod history_cases;
 pub mod read_cases;
 pub mod report;
+pub mod sweep;
 pub mod taglist;
+pub mod text_cases;
 pub mod to_text_cases;
 pub mod to_words_cases;
 pub mod torn_cases;
@@ -28,11 +30,16 @@ pub fn run(arguments: &Arguments) -> Result<String, String> {
         Subject::Edit => vec![boxed(edit_cases::all(seed, count))],
         Subject::ToText => vec![boxed(to_text_cases::all(seed, count))],
         Subject::ToWords => vec![boxed(to_words_cases::all(seed, count))],
+        Subject::Texts => text_cases::shares(),
         Subject::Histories => vec![Box::new(history_cases::all(seed, count))],
         Subject::Torn => shared(seed, count, torn_cases::all),
         Subject::Changed => changed_cases::shares(seed, count),
         Subject::Faults => return faults::compare(program, seed, count),
         Subject::Taglist => return taglist::compare(program, seed, count),
     };
-    engine::compare(program, shares)?.judged(subject.name(), seed, subject.to_be_met())
+    let mut report = engine::compare(program, shares)?;
+    if *subject == Subject::Texts && !report.differs() {
+        report.add(sweep::compare(program, count)?);
+    }
+    report.judged(subject.name(), seed, subject.to_be_met())
 }
