@@ -29,8 +29,8 @@ const PLACES: [WithString; 12] = [
 /// Every bound of the first byte, of the second and of the others in RFC 3629's table, with its neighbour beyond; 00, 1F, 20,
 /// 7E and 7F besides.
 const FIRST: [u8; 25] = [
-    0x00, 0x1F, 0x20, 0x7E, 0x7F, 0x80, 0xBF, 0xC0, 0xC1, 0xC2, 0xDF, 0xE0, 0xE1, 0xEC, 0xED, 0xEE, 0xEF, 0xF0, 0xF1, 0xF3,
-    0xF4, 0xF5, 0xF7, 0xF8, 0xFF,
+    0x00, 0x1F, 0x20, 0x7E, 0x7F, 0x80, 0xBF, 0xC0, 0xC1, 0xC2, 0xDF, 0xE0, 0xE1, 0xEC, 0xED, 0xEE, 0xEF, 0xF0, 0xF1,
+    0xF3, 0xF4, 0xF5, 0xF7, 0xF8, 0xFF,
 ];
 const SECOND: [u8; 10] = [0x00, 0x20, 0x7F, 0x80, 0x8F, 0x90, 0x9F, 0xA0, 0xBF, 0xC0];
 const OTHERS: [u8; 5] = [0x20, 0x7F, 0x80, 0xBF, 0xC0];
@@ -42,11 +42,7 @@ pub fn shares() -> Vec<Cases> {
     bounds.into_iter().chain(short).collect()
 }
 
-fn cases(
-    group: &'static str,
-    call: WithString,
-    strings: impl Iterator<Item = Vec<u8>> + Send + 'static,
-) -> Cases {
+fn cases(group: &'static str, call: WithString, strings: impl Iterator<Item = Vec<u8>> + Send + 'static) -> Cases {
     boxed(strings.map(move |string| Case::new(group, call(&string))))
 }
 
@@ -56,9 +52,9 @@ fn one_and_two() -> impl Iterator<Item = Vec<u8>> + Send {
 }
 
 fn at_bounds() -> impl Iterator<Item = Vec<u8>> + Send {
-    let three = FIRST.into_iter().flat_map(|first| {
-        SECOND.into_iter().flat_map(move |second| OTHERS.map(|third| vec![first, second, third]))
-    });
+    let three = FIRST
+        .into_iter()
+        .flat_map(|first| SECOND.into_iter().flat_map(move |second| OTHERS.map(|third| vec![first, second, third])));
     three.flat_map(|string| {
         let four = OTHERS.map(|fourth| [&string[..], &[fourth]].concat());
         [string].into_iter().chain(four)
