@@ -64,21 +64,22 @@ enum { LIBRARIES = sizeof libraries / sizeof libraries[0] };
 
 enum { MOST_REPETITIONS = 1001, SLICE_NS = 200000, CALIBRATIONS = 5 };
 
-/* The blocks that a tag holds behind its first 34 bytes; or the characters of a
-   text, all of the 39 or others among them. */
-enum kind { NONE, FEW, LONG, MANY, BROKEN, CODE40, MIXED };
+/* The blocks that a tag holds behind its first 34 bytes, or that its texts have
+   accents; or the characters of a text, all of the 39 or others among them. */
+enum kind { NONE, FEW, ACCENTS, LONG, MANY, BROKEN, CODE40, MIXED };
 
 static const char *const kind_names[] = {
-    "none", "few", "long", "many", "broken", "code40", "mixed"
+    "none", "few", "accents", "long", "many", "broken", "code40", "mixed"
 };
 
 static const struct row {
     size_t len;
     enum kind kind;
 } rows[] = {
-    { 32, NONE }, { 112, FEW }, { 112, MANY }, { 256, FEW }, { 256, MANY },
-    { 256, BROKEN }, { 2048, FEW }, { 2048, LONG }, { 2048, MANY },
-    { 24, CODE40 }, { 255, CODE40 }, { 255, MIXED }
+    { 32, NONE }, { 112, FEW }, { 112, ACCENTS }, { 112, MANY }, { 256, FEW },
+    { 256, ACCENTS }, { 256, MANY }, { 256, BROKEN }, { 2048, FEW },
+    { 2048, LONG }, { 2048, MANY }, { 24, CODE40 }, { 255, CODE40 },
+    { 255, MIXED }
 };
 
 enum { ROWS = sizeof rows / sizeof rows[0] };
@@ -214,26 +215,44 @@ static size_t add(struct entry *entries, size_t count, uint8_t number,
     return count + 1;
 }
 
+static int has_block1(const struct row *row)
+{
+    return row->kind == FEW || row->kind == ACCENTS;
+}
+
+/* How often a tag has what one of 112 bytes has once. */
+static size_t times_in(const struct row *row)
+{
+    return row->len > 112 ? 3 : 1;
+}
+
 /* The sheet number 0 or 1 of a row: elements 1, 3, 4 and 5 in the first 34
-   bytes; for FEW also block 1 with 19, 22 and a sub qualifier, and one or three
-   blocks of 34 bytes; for LONG blocks of 251 bytes, for MANY of 3, as many as
-   fit; for BROKEN as for MANY, and behind them the block to be broken. */
+   bytes; for FEW and ACCENTS also block 1 with 19, 22 and a sub qualifier; for
+   FEW one or three blocks of 34 bytes; for LONG blocks of 251 bytes, for MANY
+   of 3, as many as fit; for BROKEN as for MANY, and behind them the block to be
+   broken. */
 static void make_row_sheet(const struct row *row, int which, struct inputs *in)
 {
+    static const char *const plain[2] = { "1000000056", "2000000136" };
+    static const char *const accents[2] = {
+        "B\303\274cher\342\200\223Regal",
+        "\304\214\303\255tanka \303\206r\303\270"
+    };
     static struct entry entries[1 + 7 + URP_TAG_MAX / 3];
     static uint8_t store[URP_OLD_MAX];
+    const char *item = (row->kind == ACCENTS ? accents : plain)[which];
     size_t room = row->len > 34 ? row->len - 34 : 0, n = 0;
 
-    n = add(entries, n, 1, which == 0 ? "1000000056" : "2000000136", 10);
+    n = add(entries, n, 1, item, strlen(item));
     n = add(entries, n, 3, "DK-718500", 9);
     n = add(entries, n, 4, "\001\000\001\000", 4);
-    n = add(entries, n, 5, row->kind == FEW ? "\021" : "\020", 1);
-    if (row->kind == FEW) {
+    n = add(entries, n, 5, has_block1(row) ? "\021" : "\020", 1);
+    if (has_block1(row)) {
         n = add(entries, n, 19, "\001", 1);
-        n = add(entries, n, 22, "978-3-16-148", 12);
-        n = add_blocks(entries, n, store, 34, 2,
-                       row->len > 112 ? 3 * 34 : 34);
+        n = add(entries, n, 22, in->values[1], in->value_lens[1]);
     }
+    if (row->kind == FEW)
+        n = add_blocks(entries, n, store, 34, 2, times_in(row) * 34);
     if (row->kind == LONG)
         n = add_blocks(entries, n, store, 251, 3, room);
     if (row->kind == MANY)
@@ -245,15 +264,39 @@ static void make_row_sheet(const struct row *row, int which, struct inputs *in)
     make_sheet(&in->sheets[which], entries, n);
 }
 
-static void set_value(struct inputs *in, int which, const char *text)
+/* Edits change the length of block 1, and so move the other blocks of a FEW
+   tag; where there is no block 1 they change the first 34 bytes. The second
+   value is the one that the sheets have. Those of ACCENTS are German, Danish,
+   Czech and Greek words, with a dash of three bytes and a clef of four. */
+static void make_values(const struct row *row, struct inputs *in)
 {
-    in->value_lens[which] = strlen(text);
-    memcpy(in->values[which], text, in->value_lens[which]);
+    static const char *const plain[2] = { "3000000099", "1000000056" };
+    static const char *const few[2] = { "978-3-16", "978-3-16-148" };
+    static const char *const accents[2] = {
+        "\303\234bergr\303\266\303\237e\342\200\223\303\226l, \303\205lborg, "
+        "P\305\231\303\255b\304\233hy, "
+        "\316\221\316\270\316\256\316\275\316\261 \360\235\204\236; ",
+        "Stra\303\237e\342\200\223B\303\274cher, \303\206r\303\270, "
+        "\304\214e\305\241tina pro d\304\233ti, "
+        "\316\225\316\273\316\273\316\267\316\275\316\271\316\272\316\254 "
+        "\360\235\204\236; "
+    };
+    const char *const *texts = row->kind == FEW ? few
+        : row->kind == ACCENTS ? accents : plain;
+    size_t times = row->kind == ACCENTS ? times_in(row) : 1, i;
+    int which;
+
+    in->number = has_block1(row) ? 22 : 1;
+    for (which = 0; which < 2; which++) {
+        size_t len = strlen(texts[which]);
+
+        for (i = 0; i < times; i++)
+            memcpy(in->values[which] + i * len, texts[which], len);
+        in->value_lens[which] = times * len;
+    }
 }
 
-/* Edits change the length of block 1 of a FEW tag and so move its other blocks;
-   of the others they change the first 34 bytes. The broken block ends a BROKEN
-   tag, and its checksum is made to differ. */
+/* The broken block ends a BROKEN tag, and its checksum is made to differ. */
 static void make_tags(const struct row *row, const struct library *by,
                       struct inputs *in)
 {
@@ -261,9 +304,7 @@ static void make_tags(const struct row *row, const struct library *by,
     size_t pages;
 
     in->tag_len = row->len;
-    in->number = row->kind == FEW ? 22 : 1;
-    set_value(in, 0, row->kind == FEW ? "978-3-16" : "3000000099");
-    set_value(in, 1, row->kind == FEW ? "978-3-16-148" : "1000000056");
+    make_values(row, in);
     for (which = 0; which < 2; which++) {
         make_row_sheet(row, which, in);
         if (by->write(in->sheets[which].bytes, in->sheets[which].len,
@@ -461,7 +502,7 @@ static double median(double *times, size_t count)
 
 static void print_name(const struct row *row, enum call call)
 {
-    printf("%5lu  %-6s  %-8s", (unsigned long)row->len,
+    printf("%5lu  %-7s  %-8s", (unsigned long)row->len,
            kind_names[row->kind], call_names[call]);
 }
 

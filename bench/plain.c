@@ -145,15 +145,13 @@ static int is_second(uint8_t first, uint8_t b)
     }
 }
 
-/* The length of the character that begins here, left bytes before the end and
-   left at least 1: UTF-8 after RFC 3629, without 00 to 1F and 7F. 0 where none
+/* The length of the character of more than one byte that begins here, left
+   bytes before the end and left at least 1: UTF-8 after RFC 3629. 0 where none
    does. */
 static size_t character_len(const uint8_t *at, size_t left)
 {
     uint8_t first = at[0];
 
-    if (first < 0x80)
-        return first >= 0x20 && first != 0x7F;
     if (first < 0xE0)
         return first >= 0xC2 && left >= 2 && goes_on(at[1]) ? 2 : 0;
     if (first < 0xF0)
@@ -164,12 +162,18 @@ static size_t character_len(const uint8_t *at, size_t left)
 
 static int is_text(const uint8_t *bytes, size_t len)
 {
-    size_t at, size;
+    size_t at = 0;
 
-    for (at = 0; at < len; at += size) {
-        size = character_len(bytes + at, len - at);
-        if (size == 0)
-            return 0;
+    while (at < len) {
+        if (bytes[at] >= 0x20 && bytes[at] <= 0x7E) {
+            at++;
+        } else {
+            size_t size = character_len(bytes + at, len - at);
+
+            if (size == 0)
+                return 0;
+            at += size;
+        }
     }
     return 1;
 }

@@ -67,11 +67,55 @@ static void put_hex(FILE *out, const uint8_t *bytes, size_t len)
         fprintf(out, "%02X", (unsigned)bytes[i]);
 }
 
+/* How many bytes at the beginning of a text a terminal would obey and not show:
+   a control character of one byte or of two, C2 80 to C2 9F. A backslash counts
+   too: it stands before the hex digits of the others. */
+static size_t hidden_at(const uint8_t *text, size_t len)
+{
+    if (text[0] < 0x20 || text[0] == 0x7F || text[0] == '\\')
+        return 1;
+    return len > 1 && text[0] == 0xC2 && text[1] < 0xA0 ? 2 : 0;
+}
+
+/* Shows a text as it is, but each hidden byte as a backslash and two hex
+   digits. */
+static void show_text(const uint8_t *text, size_t len)
+{
+    size_t i, hidden = 0;
+
+    for (i = 0; i < len; i++) {
+        if (hidden == 0)
+            hidden = hidden_at(text + i, len - i);
+        if (hidden == 0) {
+            printf("%c", text[i]);
+        } else {
+            printf("\\%02X", (unsigned)text[i]);
+            hidden--;
+        }
+    }
+    printf("\n");
+}
+
+/* How many bytes at the end of an element are text. */
+static size_t text_of(uint32_t number, size_t len)
+{
+    switch (number) {
+    case URP_ELEMENT_PRIMARY_ITEM:
+    case URP_ELEMENT_OWNER:
+    case URP_ELEMENT_ALTERNATIVE_ITEM: return len;
+    case URP_ELEMENT_ALTERNATIVE_OWNER: return len > 0 ? len - 1 : 0;
+    default: return 0;
+    }
+}
+
 static void show_element(uint32_t number, const uint8_t *bytes, size_t len)
 {
+    size_t text = text_of(number, len);
+
     printf("%lu ", (unsigned long)number);
     put_hex(stdout, bytes, len);
-    printf("  (%s)\n", urp_element_name(number));
+    printf("  (%s)%s", urp_element_name(number), text > 0 ? " " : "");
+    show_text(bytes + len - text, text);
 }
 
 /* Shows a sheet that the library gave. */
@@ -108,22 +152,6 @@ static void show_words(const uint16_t *words, size_t len)
 
     for (i = 0; i < len; i++)
         printf("%s%04X", i == 0 ? "" : " ", (unsigned)words[i]);
-    printf("\n");
-}
-
-/* Shows a text as it is, except what a terminal would obey and not show: a
-   control character is a backslash and two hex digits. So that this is not
-   taken for characters of the text, a backslash is \5C. */
-static void show_text(const uint8_t *text, size_t len)
-{
-    size_t i;
-
-    for (i = 0; i < len; i++) {
-        if (text[i] >= 0x20 && text[i] <= 0x7E && text[i] != '\\')
-            printf("%c", text[i]);
-        else
-            printf("\\%02X", (unsigned)text[i]);
-    }
     printf("\n");
 }
 
@@ -250,6 +278,18 @@ static int take_hex(const char *hex, struct element *e)
     return 1;
 }
 
+/* Takes a text behind a "=", as the bytes that it is; else as take_hex. */
+static int take_value(const char *word, struct element *e)
+{
+    if (word[0] != '=')
+        return take_hex(word, e);
+    e->len = strlen(word + 1);
+    if (e->len == 0 || e->len > sizeof e->bytes)
+        return 0;
+    memcpy(e->bytes, word + 1, e->len);
+    return 1;
+}
+
 /* Takes four hex digits; false if it is anything else. */
 static int take_word(const char *hex, uint16_t *word)
 {
@@ -282,20 +322,26 @@ static int take_number(const char *word, struct element *e)
 
 /* ---- the commands ---- */
 
-static int list(const char *tag_path)
+static int show_tag(const struct tag *tag)
 {
-    struct tag tag;
     uint8_t sheet[URP_SHEET_MAX];
     size_t used, place;
-    uint32_t answer;
+    uint32_t answer = urp_read(tag->bytes, tag->len, sheet, sizeof sheet,
+                               &used, &place);
 
-    if (load_tag(tag_path, "-", &tag) != DONE)
-        return TROUBLE;
-    answer = urp_read(tag.bytes, tag.len, sheet, sizeof sheet, &used, &place);
     if (answer != URP_DONE)
         return refused_at(answer, &place);
     show_sheet(sheet);
     return DONE;
+}
+
+static int list(const char *tag_path)
+{
+    struct tag tag;
+
+    if (load_tag(tag_path, "-", &tag) != DONE)
+        return TROUBLE;
+    return show_tag(&tag);
 }
 
 static int write_sheet(const char *tag_path, const char *locks_path,
@@ -378,14 +424,15 @@ static int set_element(const char *tag_path, const char *locks_path,
 }
 
 static int edit(const char *tag_path, const char *locks_path,
-                const char *number, const char *hex)
+                const char *number, const char *value)
 {
     struct element e;
 
     if (!take_number(number, &e))
         return trouble(number, "not an element number");
-    if (!take_hex(hex, &e))
-        return trouble(hex, "not 1 to 256 bytes in hex, nor - for none");
+    if (!take_value(value, &e))
+        return trouble(value, "not 1 to 256 bytes, in hex or as text behind =,"
+                       " nor - for none");
     return set_element(tag_path, locks_path, &e);
 }
 
@@ -458,23 +505,22 @@ static const uint8_t whole_sheet[] = {
     0x42, 0x31,  0x01, 0x00, 0x01, 0x00,  0x10      /* B1; 1 of 1; usage 1.0 */
 };
 
-/* Sets the owner and shows what the call gave. */
-static int demo_owner(struct tag *tag, const struct element *owner,
-                      struct element *old, size_t *pages)
+/* Sets an element and shows what the call gave. */
+static int demo_edit(struct tag *tag, const struct element *e,
+                     struct element *old, size_t *pages)
 {
     struct tag before = *tag;
     size_t place;
     uint32_t answer = urp_edit(tag->bytes, tag->len, tag->locks,
-                               tag->locks_len, owner->number,
-                               owner->bytes, owner->len,
+                               tag->locks_len, e->number, e->bytes, e->len,
                                old->bytes, sizeof old->bytes,
                                pages, &old->len, &place);
 
     if (answer != URP_DONE)
         return refused_at(answer, &place);
-    old->number = owner->number;
-    fputs("edit   3 ", stdout);
-    put_hex(stdout, owner->bytes, owner->len);
+    old->number = e->number;
+    printf("edit   %lu ", (unsigned long)e->number);
+    put_hex(stdout, e->bytes, e->len);
     printf(": pages changed %lu, old element ", (unsigned long)*pages);
     put_hex(stdout, old->bytes, old->len);
     fputs("\n", stdout);
@@ -495,20 +541,42 @@ static int demo_edits(struct tag *tag, const struct tag *start)
     second.len = 9;
     memcpy(second.bytes, "US-InU-Mu", 9);
 
-    if (demo_owner(tag, &first, &old1, &pages1) != DONE)
+    if (demo_edit(tag, &first, &old1, &pages1) != DONE)
         return REFUSED;
     between = *tag;
-    if (demo_owner(tag, &second, &old2, &pages2) != DONE
-        || demo_owner(tag, &old2, &last, &back2) != DONE)
+    if (demo_edit(tag, &second, &old2, &pages2) != DONE
+        || demo_edit(tag, &old2, &last, &back2) != DONE)
         return REFUSED;
     if (memcmp(tag->bytes, between.bytes, tag->len) != 0 || back2 != pages2)
         return trouble("demo", "the second edit was not undone");
-    if (demo_owner(tag, &old1, &last, &back1) != DONE)
+    if (demo_edit(tag, &old1, &last, &back1) != DONE)
         return REFUSED;
     if (memcmp(tag->bytes, start->bytes, tag->len) != 0 || back1 != pages1)
         return trouble("demo", "the first edit was not undone");
     puts("the bytes are again those that were written, and each undo\n"
          "changed as many pages as its edit");
+    return DONE;
+}
+
+/* An identifier with an accent, set, listed and set back. To C it is bytes as
+   any other: strlen and memcpy count as the library does. */
+static int demo_accent(struct tag *tag, const struct tag *start)
+{
+    static const char name[] = "K\303\270benhavn";
+    struct element e, old, last;
+    size_t pages;
+
+    e.number = URP_ELEMENT_PRIMARY_ITEM;
+    e.len = strlen(name);
+    memcpy(e.bytes, name, e.len);
+    if (demo_edit(tag, &e, &old, &pages) != DONE)
+        return REFUSED;
+    fputs("read   the letters as they are: ", stdout);
+    if (show_tag(tag) != DONE
+        || demo_edit(tag, &old, &last, &pages) != DONE)
+        return REFUSED;
+    if (memcmp(tag->bytes, start->bytes, tag->len) != 0)
+        return trouble("demo", "the identifier was not set back");
     return DONE;
 }
 
@@ -566,13 +634,15 @@ static int demo(void)
     show_sheet(sheet);
     start = tag;
     status = demo_edits(&tag, &start);
+    if (status == DONE)
+        status = demo_accent(&tag, &start);
     return status == DONE ? demo_words() : status;
 }
 
 static int usage(void)
 {
     fputs("usage: desk list TAG | write TAG LOCKS SHEET"
-          " | edit TAG LOCKS NUMBER HEX | undo TAG LOCKS"
+          " | edit TAG LOCKS NUMBER HEX|=TEXT | undo TAG LOCKS"
           " | words TEXT | text WORD.. | demo"
           "  (LOCKS - for all open, HEX - to remove)\n", stderr);
     return TROUBLE;

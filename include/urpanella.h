@@ -21,7 +21,7 @@
        the sheet.
    Numbers rise strictly; 255 comes last and may repeat, in tag order.
 
-   ELEMENTS (a text byte is 20 to 7E hex)
+   ELEMENTS (TEXT says what text is)
        1    primary item identifier: text
        3    owner (ISIL): 1 to 4 capitals, a hyphen, and 1 to 11 of
             A-Z a-z 0-9 / - :
@@ -36,6 +36,21 @@
    1, 3, 22 and 23 are never empty, and 23 has text after its first byte. 4 and
    5 are always present. 3 and 23 clash. 22 clashes with a 1 of more than 16
    bytes.
+
+   TEXT
+   The text of 1, 22 and 23 is UTF-8, well formed as RFC 3629 defines it and
+   without 00 to 1F and 7F hex. Every other character passes, also the control
+   characters C2 80 to C2 9F. So C0 AF, ED A0 80, F4 90 80 80 and C3 with
+   nothing behind it are no text. A host that has its words in another encoding
+   turns them into UTF-8 first.
+   Lengths and limits count bytes and not characters: an e with an acute accent
+   is C3 A9, and eight of them are 16 bytes, the most that a 1 has on a tag of
+   32 bytes or beside a 22. Each value, and on a tag each field, is judged by
+   itself: a host that shortens a value cuts between two characters.
+   Nothing is normalised. The same letter can also be spelled 65 CC 81, and the
+   two spellings are two identifiers.
+   The ISIL keeps its alphabet. The text of UHF words is another: one byte for
+   each character, 00 to 7F hex.
 
    BLOCKS
    From byte 34 on a tag holds blocks, one behind the other, up to a byte 00 or

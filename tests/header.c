@@ -2,8 +2,9 @@
    made by its words are carried, others are not; the pages that differ from a
    copy are as many as the call says; a half-sent tag is mended by writing again;
    the place is that of the first damaged block, and is given with no other
-   answer; words and text are as its table, sums and rules say, and fit into the
-   room that it says suffices.
+   answer; the text of elements is UTF-8, and its limits count bytes; words and
+   their text are as its table, sums and rules say, and fit into the room that it
+   says suffices.
    Prints what is wrong, or the first of it, and ends with 1; or one line, and
    0. */
 #include "urpanella.h"
@@ -343,6 +344,102 @@ static void places(void)
                "URP_HAS_PLACE is wrong of an answer");
 }
 
+/* ---- the text of elements ---- */
+
+enum { SHORT_TAG = 32 };
+
+/* The answer to setting an element on a tag of 4 and 5. What is set comes back
+   byte for byte. */
+static uint32_t set(size_t tag_len, uint32_t number, const void *value,
+                    size_t len)
+{
+    static const uint8_t sheet[] = {
+        2, 0,  4, 10, 0, 4,  5, 14, 0, 1,  1, 0, 1, 0,  0x10
+    };
+    uint8_t tag[TAG] = {0}, old[URP_OLD_MAX];
+    size_t locks_len = tag_len / URP_PAGE, pages, used, place;
+    uint32_t answer;
+
+    expect(urp_write(sheet, sizeof sheet, tag, tag_len, open_pages, locks_len,
+                     &pages) == URP_DONE, "a sheet of 4 and 5 is refused");
+    answer = urp_edit(tag, tag_len, open_pages, locks_len, number,
+                      (const uint8_t *)value, len, old, sizeof old,
+                      &pages, &used, &place);
+    if (answer != URP_DONE)
+        return answer;
+    expect(urp_edit(tag, tag_len, open_pages, locks_len, number, NULL, 0,
+                    old, sizeof old, &pages, &used, &place) == URP_DONE
+               && used == len && memcmp(old, value, len) == 0,
+           "a text does not come back as it was set");
+    return answer;
+}
+
+/* Texts and others, as a value and as the item field of a tag. */
+static void judged_texts(void)
+{
+    static const struct {
+        const char *value;
+        int is_text;
+    } tried[] = {
+        { "\302\200", 1 }, { "\302\237", 1 }, { "\337\277", 1 },
+        { "\340\240\200", 1 }, { "\355\237\277", 1 },
+        { "\356\200\200", 1 }, { "\357\277\277", 1 },
+        { "\360\220\200\200", 1 }, { "\364\217\277\277", 1 },
+        { "x\303\251\342\200\223\360\235\204\236x", 1 },
+        { "\303\251", 1 }, { "e\314\201", 1 },
+        { "\300\257", 0 }, { "\301\277", 0 }, { "\340\237\277", 0 },
+        { "\355\240\200", 0 }, { "\355\240\200\355\260\200", 0 },
+        { "\360\217\277\277", 0 }, { "\364\220\200\200", 0 },
+        { "\365\200\200\200", 0 }, { "\303", 0 }, { "x\342\200", 0 },
+        { "\360\235\204", 0 }, { "\303x", 0 }, { "\342\200\303\251", 0 },
+        { "x\177", 0 }, { "\303\251\037", 0 }
+    };
+    struct call c;
+    uint8_t block1[16];
+    size_t i, len;
+
+    for (i = 0; i < sizeof tried / sizeof tried[0]; i++) {
+        uint32_t right = tried[i].is_text ? URP_DONE : URP_VALUE;
+
+        len = strlen(tried[i].value);
+        block1[0] = 2;  /* of 23; of block 1 the media format */
+        memcpy(block1 + 1, tried[i].value, len);
+        expect(set(TAG, URP_ELEMENT_PRIMARY_ITEM, block1 + 1, len) == right
+                   && set(TAG, URP_ELEMENT_ALTERNATIVE_ITEM, block1 + 1, len)
+                       == right
+                   && set(TAG, URP_ELEMENT_ALTERNATIVE_OWNER, block1, len + 1)
+                       == right,
+               "a text is refused, or what is none is set");
+        make_call_on_block_1(&c, block1, len + 1);
+        try_read(&c, tried[i].is_text ? URP_DONE : URP_FIELD, PRESET);
+    }
+}
+
+static void texts(void)
+{
+    /* eight times an e with an acute accent, and one character more */
+    static const char eight[] =
+        "\303\251\303\251\303\251\303\251\303\251\303\251\303\251\303\251x";
+    unsigned number;
+    uint8_t byte;
+
+    judged_texts();
+    for (number = 0; number <= 0xFF; number++) {
+        byte = (uint8_t)number;
+        expect(set(SHORT_TAG, URP_ELEMENT_PRIMARY_ITEM, &byte, 1)
+                   == (number >= 0x20 && number <= 0x7E ? URP_DONE : URP_VALUE),
+               "another byte than 20 to 7E is a text by itself");
+    }
+    expect(set(SHORT_TAG, URP_ELEMENT_PRIMARY_ITEM, eight, 16) == URP_DONE,
+           "16 bytes of text do not fit");
+    expect(set(SHORT_TAG, URP_ELEMENT_PRIMARY_ITEM, eight, 17) == URP_LARGE,
+           "a limit counts characters");
+    expect(set(SHORT_TAG, URP_ELEMENT_PRIMARY_ITEM, eight, 15) == URP_VALUE,
+           "a letter may be cut");
+    expect(set(TAG, URP_ELEMENT_OWNER, "DK-\303\251", 5) == URP_VALUE,
+           "an ISIL has another alphabet");
+}
+
 /* ---- UHF words ---- */
 
 /* The longest text that is tried; some items more than any output has, and what
@@ -549,9 +646,10 @@ int main(void)
     blocks();
     sending();
     places();
+    texts();
     uhf_words();
     if (wrong > 0)
         return 1;
-    puts("blocks, pages, places and words are as the header says");
+    puts("blocks, pages, places, texts and words are as the header says");
     return 0;
 }
