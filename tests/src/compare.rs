@@ -30,16 +30,12 @@ pub fn run(arguments: &Arguments) -> Result<String, String> {
         Subject::Edit => vec![boxed(edit_cases::all(seed, count))],
         Subject::ToText => vec![boxed(to_text_cases::all(seed, count))],
         Subject::ToWords => vec![boxed(to_words_cases::all(seed, count))],
-        Subject::Texts => text_cases::shares(),
+        Subject::Texts => return text_cases::compare(program, seed, count),
         Subject::Histories => vec![Box::new(history_cases::all(seed, count))],
         Subject::Torn => shared(seed, count, torn_cases::all),
         Subject::Changed => changed_cases::shares(seed, count),
         Subject::Faults => return faults::compare(program, seed, count),
         Subject::Taglist => return taglist::compare(program, seed, count),
     };
-    let mut report = engine::compare(program, shares)?;
-    if *subject == Subject::Texts && !report.differs() {
-        report.add(sweep::compare(program, count)?);
-    }
-    report.judged(subject.name(), seed, subject.to_be_met())
+    engine::compare(program, shares)?.judged(subject.name(), seed, subject.to_be_met())
 }

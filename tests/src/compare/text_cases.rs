@@ -1,7 +1,10 @@
-//! Strings wherever text stands: all of one and of two bytes, and those of three and four at the bounds of RFC 3629.
+//! Strings wherever text stands: all of one and of two bytes, those of three and four at the bounds of RFC 3629, and names
+//! whose bytes, or characters, are about as many as a limit.
 
+use super::arguments::Subject;
 use super::case::{Call, Case};
-use super::engine::{boxed, Cases};
+use super::engine::{self, boxed, Cases};
+use super::sweep;
 use crate::build::{block, Draft};
 use crate::generate::locks;
 use crate::trial::{sheet_with, tag_with};
@@ -9,8 +12,8 @@ use crate::trial::{sheet_with, tag_with};
 /// The call that has this string where text stands.
 pub type WithString = fn(&[u8]) -> Call;
 
-/// Every such place. On a tag nothing but what ends a field stands between the string and bytes of another meaning: the
-/// CRC behind the item field, a separator, the next block.
+/// Every such place. On a tag the string ends with its field, so that bytes of another meaning follow, or the end of the tag or
+/// of block 1.
 const PLACES: [WithString; 12] = [
     item_field,
     |string| read(Draft::default().owner(&other_owner(2, &filling(10, string))), 36),
@@ -35,11 +38,20 @@ const FIRST: [u8; 25] = [
 const SECOND: [u8; 10] = [0x00, 0x20, 0x7F, 0x80, 0x8F, 0x90, 0x9F, 0xA0, 0xBF, 0xC0];
 const OTHERS: [u8; 5] = [0x20, 0x7F, 0x80, 0xBF, 0xC0];
 
-/// Two shares for each place, the shorter ones first.
-pub fn shares() -> Vec<Cases> {
+/// The sweep with so many first bytes, and then the cases. There is no chance in them.
+pub fn compare(program: &[String], seed: u64, count: usize) -> Result<String, String> {
+    let mut report = sweep::compare(program, count)?;
+    if !report.differs() {
+        report.add(engine::compare(program, shares())?);
+    }
+    report.judged(Subject::Texts.name(), seed, Subject::Texts.to_be_met())
+}
+
+/// The names, and two shares for each place, those with fewer cases first.
+fn shares() -> Vec<Cases> {
     let bounds = PLACES.map(|call| cases("strings of 3 and 4 bytes at every bound, in 12 places", call, at_bounds()));
     let short = PLACES.map(|call| cases("all strings of 1 and 2 bytes, in 12 places", call, one_and_two()));
-    bounds.into_iter().chain(short).collect()
+    [boxed(limits())].into_iter().chain(bounds).chain(short).collect()
 }
 
 fn cases(group: &'static str, call: WithString, strings: impl Iterator<Item = Vec<u8>> + Send + 'static) -> Cases {
@@ -59,6 +71,37 @@ fn at_bounds() -> impl Iterator<Item = Vec<u8>> + Send {
         let four = OTHERS.map(|fourth| [&string[..], &[fourth]].concat());
         [string].into_iter().chain(four)
     })
+}
+
+/// Names of 7 to 18 and of 246 to 257 bytes, of characters of 2, 3 and 4 bytes, written and set on five tags.
+fn limits() -> impl Iterator<Item = Case> + Send {
+    let names = (7..=18).chain(246..=257).flat_map(|length| ["é", "€", "😀"].map(|character| name(character, length)));
+    names.flat_map(|name| {
+        let owner = [&[2], &name[..]].concat();
+        [(1, name.clone()), (22, name), (23, owner)].into_iter().flat_map(|(number, value)| {
+            let others: [(usize, &[(u8, &[u8])]); 5] =
+                [(32, &[]), (36, &[]), (64, &[(22, b"x")]), (2048, &[]), (2048, &[(22, b"x")])];
+            others.into_iter().flat_map(move |(length, others)| beside(number, &value, others, length))
+        })
+    })
+}
+
+/// A text of exactly so many bytes: this character, and letters of one byte where it does not go in.
+fn name(character: &str, length: usize) -> Vec<u8> {
+    let mut name = character.repeat(length / character.len()).into_bytes();
+    name.resize(length, b'x');
+    name
+}
+
+/// The element beside these others, written where a sheet can hold it, and set.
+fn beside(number: u8, value: &[u8], others: &[(u8, &[u8])], length: usize) -> Vec<Case> {
+    let mut entries: Vec<(u8, &[u8])> = others.iter().copied().filter(|(other, _)| *other != number).collect();
+    let open = locks::open(length);
+    let edit = Call::edit(tag_with(others, length), open.clone(), u32::from(number), value.to_vec(), vec![0xEE; 255]);
+    entries.push((number, value));
+    let write = (value.len() <= 255).then(|| Call::write(sheet_with(&entries), vec![0xEE; length], open));
+    let calls = [edit].into_iter().chain(write);
+    calls.map(|call| Case::new("names about as long as a limit", call)).collect()
 }
 
 /// The item field, to its end.
@@ -89,13 +132,13 @@ fn other_owner(kind: u8, text: &[u8]) -> Vec<u8> {
     [&[0, 0, kind], text].concat()
 }
 
-/// A tag with these fields, a block 1 of this inside, and a block behind it whose length could go on with a letter.
+/// A tag with these fields and a block 1 of this inside.
 fn with_block_one(item: &[u8], owner: &[u8], inside: &[u8]) -> Draft {
     Draft::default().item(item).owner(owner).chain(&[&block(1, inside)])
 }
 
 fn read(draft: Draft, length: usize) -> Call {
-    Call::read(draft.tag(length), vec![0xEE; 64])
+    Call::read(draft.tag(length), vec![0xEE; 40])
 }
 
 fn write(number: u8, value: &[u8]) -> Call {
