@@ -18,15 +18,14 @@ const PART: usize = 64;
 const BEGIN: u8 = 0xC0;
 
 /// A place of text, and where the second byte of a string stands in the buffer that is judged.
-#[derive(Clone, Copy)]
-struct Place {
+pub struct Place {
     group: &'static str,
-    call: WithString,
-    at: u32,
+    pub call: WithString,
+    pub at: u32,
     refused: u32,
 }
 
-const PLACES: [Place; 4] = [
+pub const PLACES: [Place; 4] = [
     Place { group: "strings of 3 bytes swept through the item field", call: item_field, at: 17, refused: FIELD },
     Place { group: "strings of 3 bytes swept through block 1's item", call: block_one_item, at: 40, refused: FIELD },
     Place { group: "strings of 3 bytes swept through a sheet", call: sheet_item, at: 15, refused: VALUE },
@@ -58,7 +57,7 @@ impl Place {
     }
 
     /// The frame of a call whose string's last two bytes are to run through all values.
-    fn frame(&self, call: &Call, placing: Placing) -> Vec<u8> {
+    pub fn frame(&self, call: &Call, placing: Placing) -> Vec<u8> {
         let mut frame = call.frame(placing);
         frame[0] += SWEEP;
         frame.extend(self.at.to_le_bytes());
@@ -66,7 +65,7 @@ impl Place {
     }
 
     /// The right answer. A 00 ends a field, and what stands behind it may be another field: then the model says.
-    fn answer(&self, string: &[u8]) -> u8 {
+    pub fn answer(&self, string: &[u8]) -> u8 {
         let answer = match string {
             _ if string.contains(&0) => (self.call)(string).outcome().answer,
             _ if is_text(string) => 0,

@@ -77,9 +77,9 @@ fn character(random: &mut Random, bytes: usize) -> char {
     any.filter(|_| !random.one_in(4)).unwrap_or(edge)
 }
 
-/// Puts bytes into a text that make it none.
+/// Puts bytes into a text that make it none, often at its end.
 pub fn spoil_text(random: &mut Random, text: &mut Vec<u8>) {
-    let place = random.between(0, text.len());
+    let place = if random.one_in(3) { text.len() } else { random.between(0, text.len()) };
     text.splice(place..place, random.pick(&NO_TEXT).iter().copied());
 }
 
@@ -213,7 +213,7 @@ fn bad_set_information(random: &mut Random) -> Vec<u8> {
 
 fn bad_other_owner(random: &mut Random) -> Vec<u8> {
     let mut owner = other_owner(random, 20);
-    match random.below(4) {
+    match random.below(5) {
         0 => owner[0] = random.pick(&[0, 1, 4, b'D']),
         1 => owner.truncate(1),
         2 => *owner.last_mut().expect("an owner has text") = random.pick(&[0, 0x1F, 0x7F]),
