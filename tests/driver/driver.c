@@ -286,19 +286,25 @@ static void need_canary(const struct work *w, uint8_t *start, size_t length)
             stop("driver: bytes beside a buffer have changed\n");
 }
 
-/* Document 01: polynomial 1021, starts at FFFF, the high bit of each byte first; bytes 0 to 18 and 21 to 33, those that a
-   short tag has not as 00; low byte first. */
-static void put_crc(uint8_t *tag, size_t length)
+/* Document 01: polynomial 1021, the high bit of each byte first. Worked out once, for the sake of the sweep's time. */
+static uint16_t remainders[256];
+
+static void work_out_remainders(void)
 {
-    static uint16_t remainders[256];
-    unsigned crc = 0xFFFF, byte, bit;
-    size_t at;
-    for (byte = 0; remainders[255] == 0 && byte < 256; byte++) {
+    unsigned byte, bit;
+    for (byte = 0; byte < 256; byte++) {
         unsigned remainder = byte << 8;
         for (bit = 0; bit < 8; bit++)
             remainder = remainder << 1 ^ (remainder & 0x8000 ? 0x1021 : 0);
         remainders[byte] = (uint16_t)remainder;
     }
+}
+
+/* Document 01: starts at FFFF; bytes 0 to 18 and then 21 to 33, those that a short tag has not as 00; low byte first. */
+static void put_crc(uint8_t *tag, size_t length)
+{
+    unsigned crc = 0xFFFF;
+    size_t at;
     for (at = 0; at < 34; at++)
         if (at != 19 && at != 20)
             crc = (crc << 8 ^ remainders[crc >> 8 ^ (at < length ? tag[at] : 0)]) & 0xFFFF;
@@ -357,7 +363,7 @@ static uint8_t swept(const struct work *w)
     return (uint8_t)answer;
 }
 
-/* The calls with these two bytes, the second of them any. Their answers are given once all canary bytes are seen. */
+/* The calls with this byte at a place and any behind it. Their answers are given once all canary bytes have been seen. */
 static void sweep_row(const struct work *w, uint8_t *judged, size_t at, uint8_t first)
 {
     uint8_t answers[256];
@@ -393,6 +399,7 @@ int main(void)
 {
     struct work work;
     open_rooms();
+    work_out_remainders();
     while (filled()) {
         take_work(&work);
         alarm(URP_SECONDS);

@@ -7,6 +7,7 @@ use super::engine::{self, boxed, Cases};
 use super::sweep;
 use crate::build::{block, Draft};
 use crate::generate::locks;
+use crate::model::sheet::Entry;
 use crate::trial::{sheet_with, tag_with};
 
 /// The call that has this string where text stands.
@@ -19,8 +20,8 @@ const PLACES: [WithString; 12] = [
     |string| read(Draft::default().owner(&other_owner(2, &filling(10, string))), 36),
     |string| read(Draft::default().owner(&other_owner(3, &filling(8, string))), 32),
     block_one_item,
-    |string| read(with_block_one(&[1], b"", &[&[0], string].concat()), 64),
-    |string| read(with_block_one(b"", &[0, 0, 1], &[&[0, 0, 3, b'a'], string].concat()), 64),
+    |string| with_block_one(&[1], b"", &[&[0], string].concat()),
+    |string| with_block_one(b"", &[0, 0, 1], &[&[0, 0, 3, b'a'], string].concat()),
     sheet_item,
     |string| write(22, string),
     |string| write(23, &[&[2], string].concat()),
@@ -79,7 +80,7 @@ fn limits() -> impl Iterator<Item = Case> + Send {
     names.flat_map(|name| {
         let owner = [&[2], &name[..]].concat();
         [(1, name.clone()), (22, name), (23, owner)].into_iter().flat_map(|(number, value)| {
-            let others: [(usize, &[(u8, &[u8])]); 5] =
+            let others: [(usize, &[Entry]); 5] =
                 [(32, &[]), (36, &[]), (64, &[(22, b"x")]), (2048, &[]), (2048, &[(22, b"x")])];
             others.into_iter().flat_map(move |(length, others)| beside(number, &value, others, length))
         })
@@ -94,8 +95,8 @@ fn name(character: &str, length: usize) -> Vec<u8> {
 }
 
 /// The element beside these others, written where a sheet can hold it, and set.
-fn beside(number: u8, value: &[u8], others: &[(u8, &[u8])], length: usize) -> Vec<Case> {
-    let mut entries: Vec<(u8, &[u8])> = others.iter().copied().filter(|(other, _)| *other != number).collect();
+fn beside(number: u8, value: &[u8], others: &[Entry], length: usize) -> Vec<Case> {
+    let mut entries: Vec<Entry> = others.iter().copied().filter(|(other, _)| *other != number).collect();
     let open = locks::open(length);
     let edit = Call::edit(tag_with(others, length), open.clone(), u32::from(number), value.to_vec(), vec![0xEE; 255]);
     entries.push((number, value));
@@ -111,7 +112,7 @@ pub fn item_field(string: &[u8]) -> Call {
 
 /// Block 1's item field, between the media format and a separator.
 pub fn block_one_item(string: &[u8]) -> Call {
-    read(with_block_one(b"", b"", &[&[5], string, &[0, 0, 0x15]].concat()), 64)
+    with_block_one(b"", b"", &[&[5], string, &[0, 0, 0x15]].concat())
 }
 
 pub fn sheet_item(string: &[u8]) -> Call {
@@ -133,8 +134,8 @@ fn other_owner(kind: u8, text: &[u8]) -> Vec<u8> {
 }
 
 /// A tag with these fields and a block 1 of this inside.
-fn with_block_one(item: &[u8], owner: &[u8], inside: &[u8]) -> Draft {
-    Draft::default().item(item).owner(owner).chain(&[&block(1, inside)])
+fn with_block_one(item: &[u8], owner: &[u8], inside: &[u8]) -> Call {
+    read(Draft::default().item(item).owner(owner).chain(&[&block(1, inside)]), 48)
 }
 
 fn read(draft: Draft, length: usize) -> Call {
