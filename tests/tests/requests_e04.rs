@@ -161,16 +161,16 @@ fn point_25_nothing_but_00_to_1f_and_7f_is_taken_out() {
 
 /// A tag whose item field has these bytes at its end, before a CRC that makes text of them.
 fn completed_by_crc(cut: &[u8]) -> Vec<u8> {
-    let tags = (0..1_000_000).map(|number| {
+    let mut tags = (0..1_000_000).map(|number| {
         let letters = format!("{number:016}");
         Draft::default().item(&[&letters.as_bytes()[cut.len()..], cut].concat()).tag(36)
     });
     let completed = |tag: &Vec<u8>| [20, 21].into_iter().any(|end| is_text(&tag[3..end]));
-    tags.into_iter().find(completed).expect("a CRC that goes on with the character")
+    tags.find(completed).expect("a CRC that goes on with the character")
 }
 
 #[test]
-fn point_26_a_sequence_does_not_run_on_from_the_item_field_into_the_crc() {
+fn point_26_the_crc_does_not_go_on_with_a_cut_item() {
     for cut in [&b"\xC3"[..], b"\xE2\x82", b"\xE2", b"\xF0\x9F\x98", b"\xF0\x9F"] {
         assert_eq!(read(&completed_by_crc(cut)), Err(6), "{cut:02X?}");
         assert_eq!(edited(&completed_by_crc(cut), 19, &[7]), Err(6), "{cut:02X?}");
@@ -179,7 +179,7 @@ fn point_26_a_sequence_does_not_run_on_from_the_item_field_into_the_crc() {
 }
 
 #[test]
-fn point_26_nor_from_the_owner_field_into_the_chain() {
+fn point_26_the_chain_does_not_go_on_with_a_cut_owner() {
     for cut in [&b"\xC3"[..], b"\xE2\x82", b"\xF0\x9F\x98"] {
         let letters = |count: usize| vec![b'a'; count - cut.len()];
         let field = [&[0, 0, 2], &letters(10)[..], cut].concat();
@@ -190,13 +190,13 @@ fn point_26_nor_from_the_owner_field_into_the_chain() {
             assert_eq!(read(&tag), Err(6));
         }
         assert_eq!(owner_on(32, &[&[0, 0, 2], &letters(8)[..], cut].concat()), Err(6), "at the tag's own end");
-        let whole = [&[2], &[b'a'; 6][..], "é".as_bytes()].concat();
-        assert_eq!(owner_on(32, &[&[0, 0], &whole[..]].concat()), only(23, &whole), "whole at the tag's own end");
     }
+    assert_eq!(owner_on(32, "\0\0\x02aaaaaaé".as_bytes()), only(23, "\x02aaaaaaé".as_bytes()), "whole at that end");
+    assert_eq!(owner_on(36, "\0\0\x02aaaaaaa€".as_bytes()), only(23, "\x02aaaaaaa€".as_bytes()));
 }
 
 #[test]
-fn point_26_nor_across_a_00_a_separator_or_the_end_of_block_1() {
+fn point_26_what_a_00_a_separator_or_the_end_of_block_1_cuts_is_ill_formed() {
     assert_eq!(item(b"a\xC3"), Err(6), "the field's unused bytes");
     assert_eq!(item(b"a\xC3\0\xA9"), Err(6));
     assert_eq!(owner_on(36, b"\0\0\x02\xC3"), Err(6));
@@ -221,7 +221,7 @@ fn point_26_nor_across_a_00_a_separator_or_the_end_of_block_1() {
 
 #[test]
 fn point_27_sixteen_bytes_are_the_limit_of_the_item_field_however_few_characters() {
-    for character in ["é", "ß", "😀"] {
+    for character in ["é", "😀"] {
         let sixteen = character.repeat(16 / character.len());
         let seventeen = format!("{sixteen}x");
         let tag = tag_with(&[(1, sixteen.as_bytes())], 36);
