@@ -64,8 +64,8 @@ enum { LIBRARIES = sizeof libraries / sizeof libraries[0] };
 
 enum { MOST_REPETITIONS = 1001, SLICE_NS = 200000, CALIBRATIONS = 5 };
 
-/* The blocks that a tag holds behind its first 34 bytes, or that its texts have
-   accents; or the characters of a text, all of the 39 or others among them. */
+/* Of a tag, the blocks behind its first 34 bytes, or that its texts have
+   accents; of a text, its characters, all of the 39 or others among them. */
 enum kind { NONE, FEW, ACCENTS, LONG, MANY, BROKEN, CODE40, MIXED };
 
 static const char *const kind_names[] = {

@@ -145,8 +145,8 @@ static int is_second(uint8_t first, uint8_t b)
     }
 }
 
-/* The length of the character of more than one byte that begins here, left
-   bytes before the end and left at least 1: UTF-8 after RFC 3629. 0 where none
+/* The length of the character of two to four bytes that begins here, as RFC
+   3629 has it, left bytes before the end and left at least 1; 0 where none
    does. */
 static size_t character_len(const uint8_t *at, size_t left)
 {
@@ -160,6 +160,7 @@ static size_t character_len(const uint8_t *at, size_t left)
         && goes_on(at[2]) && goes_on(at[3]) ? 4 : 0;
 }
 
+/* Whether these are UTF-8, without 00 to 1F and 7F. */
 static int is_text(const uint8_t *bytes, size_t len)
 {
     size_t at = 0;

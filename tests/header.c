@@ -3,8 +3,8 @@
    copy are as many as the call says; a half-sent tag is mended by writing again;
    the place is that of the first damaged block, and is given with no other
    answer; the text of elements is UTF-8, and its limits count bytes; words and
-   their text are as its table, sums and rules say, and fit into the room that it
-   says suffices.
+   their text are as its table, sums and rules say, and fit into the room that
+   it says suffices.
    Prints what is wrong, or the first of it, and ends with 1; or one line, and
    0. */
 #include "urpanella.h"
@@ -348,8 +348,8 @@ static void places(void)
 
 enum { SHORT_TAG = 32 };
 
-/* The answer to setting an element on a tag of 4 and 5. What is set comes back
-   byte for byte. */
+/* The answer to setting an element on a tag of 4 and 5. Removing it hands back
+   what was set, byte for byte. */
 static uint32_t set(size_t tag_len, uint32_t number, const void *value,
                     size_t len)
 {
@@ -374,45 +374,52 @@ static uint32_t set(size_t tag_len, uint32_t number, const void *value,
     return answer;
 }
 
-/* Texts and others, as a value and as the item field of a tag. */
-static void judged_texts(void)
+/* Sets a value as each element that is text, and reads it as the item field of
+   block 1. Behind the value stands what a cut character would go on with. */
+static void try_value(const char *value, int is_text)
 {
-    static const struct {
-        const char *value;
-        int is_text;
-    } tried[] = {
-        { "\302\200", 1 }, { "\302\237", 1 }, { "\337\277", 1 },
-        { "\340\240\200", 1 }, { "\355\237\277", 1 },
-        { "\356\200\200", 1 }, { "\357\277\277", 1 },
-        { "\360\220\200\200", 1 }, { "\364\217\277\277", 1 },
-        { "x\303\251\342\200\223\360\235\204\236x", 1 },
-        { "\303\251", 1 }, { "e\314\201", 1 },
-        { "\300\257", 0 }, { "\301\277", 0 }, { "\340\237\277", 0 },
-        { "\355\240\200", 0 }, { "\355\240\200\355\260\200", 0 },
-        { "\360\217\277\277", 0 }, { "\364\220\200\200", 0 },
-        { "\365\200\200\200", 0 }, { "\303", 0 }, { "x\342\200", 0 },
-        { "\360\235\204", 0 }, { "\303x", 0 }, { "\342\200\303\251", 0 },
-        { "x\177", 0 }, { "\303\251\037", 0 }
-    };
+    uint32_t right = is_text ? URP_DONE : URP_VALUE;
+    size_t len = strlen(value);
+    uint8_t bytes[16], *text = bytes + 1;
     struct call c;
-    uint8_t block1[16];
-    size_t i, len;
 
-    for (i = 0; i < sizeof tried / sizeof tried[0]; i++) {
-        uint32_t right = tried[i].is_text ? URP_DONE : URP_VALUE;
+    memset(bytes, 0x80, sizeof bytes);
+    bytes[0] = 2;  /* begins a 23, or is the media format */
+    memcpy(text, value, len);
+    expect(set(TAG, URP_ELEMENT_PRIMARY_ITEM, text, len) == right
+               && set(TAG, URP_ELEMENT_ALTERNATIVE_ITEM, text, len) == right
+               && set(TAG, URP_ELEMENT_ALTERNATIVE_OWNER, bytes, 1 + len)
+                   == right,
+           is_text ? "a text is refused" : "what is no text is set");
+    make_call_on_block_1(&c, bytes, 1 + len);
+    try_read(&c, is_text ? URP_DONE : URP_FIELD, PRESET);
+}
 
-        len = strlen(tried[i].value);
-        block1[0] = 2;  /* of 23; of block 1 the media format */
-        memcpy(block1 + 1, tried[i].value, len);
-        expect(set(TAG, URP_ELEMENT_PRIMARY_ITEM, block1 + 1, len) == right
-                   && set(TAG, URP_ELEMENT_ALTERNATIVE_ITEM, block1 + 1, len)
-                       == right
-                   && set(TAG, URP_ELEMENT_ALTERNATIVE_OWNER, block1, len + 1)
-                       == right,
-               "a text is refused, or what is none is set");
-        make_call_on_block_1(&c, block1, len + 1);
-        try_read(&c, tried[i].is_text ? URP_DONE : URP_FIELD, PRESET);
-    }
+static void utf8(void)
+{
+    /* the first and last of each length and beside the surrogates, C2 9F, all
+       lengths in a row, and two spellings of one letter */
+    static const char *const good[] = {
+        "\302\200", "\337\277", "\340\240\200", "\355\237\277",
+        "\356\200\200", "\357\277\277", "\360\220\200\200",
+        "\364\217\277\277", "\302\237",
+        "x\303\251\342\200\223\360\235\204\236x", "\303\251", "e\314\201"
+    };
+    /* what has a shorter form, surrogates, what lies above 10FFFF, what is cut
+       or goes on otherwise, and control characters */
+    static const char *const bad[] = {
+        "\300\257", "\301\277", "\340\237\277", "\360\217\277\277",
+        "\355\240\200", "\355\240\200\355\260\200", "\364\220\200\200",
+        "\365\200\200\200", "\303", "x\342\200", "\360\235\204", "\303x",
+        "\303\300", "\342\200x", "\360\235x\236", "\360\235\204x",
+        "\251", "\303\251\251", "x\177", "\303\251\037"
+    };
+    size_t i;
+
+    for (i = 0; i < sizeof good / sizeof good[0]; i++)
+        try_value(good[i], 1);
+    for (i = 0; i < sizeof bad / sizeof bad[0]; i++)
+        try_value(bad[i], 0);
 }
 
 static void texts(void)
@@ -423,7 +430,7 @@ static void texts(void)
     unsigned number;
     uint8_t byte;
 
-    judged_texts();
+    utf8();
     for (number = 0; number <= 0xFF; number++) {
         byte = (uint8_t)number;
         expect(set(SHORT_TAG, URP_ELEMENT_PRIMARY_ITEM, &byte, 1)
