@@ -46,7 +46,8 @@
 #define ASCII_ALONE 40     /* text: any byte above 7E is refused, as before E4 */
 #define ONE_TAKEN 41       /* text: the three bytes C0 92 7A, which are at no bound */
 #define ONE_REFUSED 42     /* text: the three bytes C2 A9 7A are refused */
-#define CHARACTERS 43      /* editing: the limits of an identifier count characters */
+#define LOOKS_BEHIND 43    /* text: the byte behind a character that the end cuts is looked at */
+#define CHARACTERS 44      /* editing: the limits of an identifier count characters */
 
 uint32_t plain_read(const uint8_t *, size_t, uint8_t *, size_t, size_t *, size_t *);
 uint32_t plain_write(const uint8_t *, size_t, uint8_t *, size_t, const uint8_t *, size_t, size_t *);
@@ -149,6 +150,8 @@ int is_text(const uint8_t *bytes, size_t len)
             until = i + length;
         other_text[i] = i < until ? 'x' : refused(bytes + i, len - i) ? 0 : bytes[i];
     }
+    if (SLIP == LOOKS_BEHIND && len > 0 && bytes[len - 1] >= 0xC2)
+        looked_at = bytes[len];
     return plain_is_text(other_text, len);
 }
 

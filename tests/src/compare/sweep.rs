@@ -14,7 +14,7 @@ const SWEEP: u8 = 64;
 /// First bytes to a share.
 const PART: usize = 64;
 
-/// The first bytes come in their order from here on, since those of longer letters tell the most.
+/// The first bytes come in their order from here on, since those of longer characters tell the most.
 const BEGIN: u8 = 0xC0;
 
 /// A place of text, and where the second byte of a string stands in the buffer that is judged.
