@@ -79,8 +79,18 @@ BY_HAND = [
     ('pages.rs', 'locks.len() * page == tag_length', 'locks.len() * page <= tag_length'),
     ('sheet.rs', 'head[2]])) == place', 'head[2]])) == place % 65_536'),
     ('sheet.rs', 'head[2]])) == place', 'head[2]])) == place && place < 65_535'),
-    ('text.rs', '(0x20..=0x7E).contains(byte)', '(0x20..=0x7E).contains(byte) || *byte >= 0x80'),
-    ('text.rs', '(0x20..=0x7E).contains(byte)', '(0x20..=0x7E).contains(byte) || *byte == 9'),
+    # Text: the rule before E4; any bytes; controls of two bytes refused; long forms, surrogates, cut characters, tabs taken.
+    ('text.rs', 'std::str::from_utf8(bytes).is_ok()', 'bytes.is_ascii()'),
+    ('text.rs', 'std::str::from_utf8(bytes).is_ok()', 'true'),
+    ('text.rs', 'std::str::from_utf8(bytes).is_ok()', 'std::str::from_utf8(bytes).is_ok_and(|text| !text.chars().any(char::is_control))'),
+    ('text.rs', 'std::str::from_utf8(bytes).is_ok()', '(std::str::from_utf8(bytes).is_ok() || matches!(bytes, [0xC0, 0x80..=0xBF]))'),
+    ('text.rs', 'std::str::from_utf8(bytes).is_ok()', '(std::str::from_utf8(bytes).is_ok() || matches!(bytes, [0xED, 0xA0..=0xBF, 0x80..=0xBF]))'),
+    ('text.rs', 'std::str::from_utf8(bytes).is_ok()', 'std::str::from_utf8(bytes).map_or_else(|error| error.error_len().is_none(), |_| true)'),
+    ('text.rs', '*byte >= 0x20', '(*byte >= 0x20 || *byte == 9)'),
+    # Limits that count characters.
+    ('content.rs', 'self.get(PRIMARY).len() > 16', 'String::from_utf8_lossy(self.get(PRIMARY)).chars().count() > 16'),
+    ('editing.rs', 'value.len() <= 255', 'String::from_utf8_lossy(value).chars().count() <= 255'),
+    ('layout.rs', 'primary.len() > 16', 'String::from_utf8_lossy(primary).chars().count() > 16'),
     # A reader that takes FA by its first byte; pads anywhere; pads alone; FC for the others only; 00 as a pad.
     ('words.rs', 'let sum = word.checked_sub(1)?;', 'let sum = if high == 0xFA { 63_999 } else { word.checked_sub(1)? };'),
     ('words.rs', 'held.iter().map(|value| character(*value)).collect()', 'held.iter().filter(|value| **value != PAD).map(|value| character(*value)).collect()'),

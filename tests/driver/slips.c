@@ -1,5 +1,6 @@
-/* Libraries that are wrong in one thing, so that the comparison can be seen to fail: bench/plain.c, its calls renamed
-   to plain_read, plain_write and so on, behind calls with the slip that SLIP names. tests/faults tries them all. */
+/* Libraries that are wrong in one thing, so that the comparison can be seen to fail: bench/plain.c, its calls and its
+   text rule renamed to plain_read, plain_is_text and so on, behind calls and a text rule with the slip that SLIP names.
+   tests/faults tries them all. */
 #include "urpanella.h"
 
 #define NONE 0
@@ -36,6 +37,17 @@
 #define ROOM_MORE 31       /* both: one less than the room is enough */
 #define MOST_ROOM 32       /* both: room is wanted for the longest output of so many words or characters */
 #define USED_TOUCHED 33    /* both: a refusal sets the count */
+#define LONG_FORMS 34      /* text: characters in a longer form than they need, as C0 AF */
+#define SURROGATES 35      /* text: ED A0 80 and the like */
+#define ABOVE_10FFFF 36    /* text: F4 90 80 80 and the like */
+#define CUT_AT_END 37      /* text: a character that the end cuts */
+#define TAKES_7F 38        /* text: 7F */
+#define REFUSES_C1 39      /* text: C2 80 to C2 9F are refused */
+#define ASCII_ALONE 40     /* text: any byte above 7E is refused, as before E4 */
+#define ONE_TAKEN 41       /* text: the three bytes C0 92 7A, which are at no bound */
+#define ONE_REFUSED 42     /* text: the three bytes C2 A9 7A are refused */
+#define LOOKS_BEHIND 43    /* text: the byte behind a character that the end cuts is looked at */
+#define CHARACTERS 44      /* editing: the limits of an identifier count characters */
 
 uint32_t plain_read(const uint8_t *, size_t, uint8_t *, size_t, size_t *, size_t *);
 uint32_t plain_write(const uint8_t *, size_t, uint8_t *, size_t, const uint8_t *, size_t, size_t *);
@@ -43,6 +55,7 @@ uint32_t plain_edit(uint8_t *, size_t, const uint8_t *, size_t, uint32_t, const 
                     size_t *, size_t *, size_t *);
 uint32_t plain_words_to_text(const uint16_t *, size_t, uint8_t *, size_t, size_t *);
 uint32_t plain_text_to_words(const uint8_t *, size_t, uint16_t *, size_t, size_t *);
+int plain_is_text(const uint8_t *, size_t);
 
 static volatile uint8_t looked_at;
 
@@ -73,6 +86,83 @@ static uint32_t misplaced(uint32_t answer, const uint8_t *tag, size_t tag_len, s
     if (SLIP == STILL_5 && URP_HAS_PLACE(answer))
         return 5;
     return answer;
+}
+
+/* What a call of plain.c is given instead of what was lent, so that it does what the slip would. */
+enum { MOST = 1 << 18 };
+static uint16_t other_words[MOST];
+static uint8_t other_text[MOST], other_value[MOST];
+
+static int begins(const uint8_t *at, size_t left, unsigned first, unsigned second, unsigned third)
+{
+    return left >= 3 && at[0] == first && at[1] == second && at[2] == third;
+}
+
+/* The bytes from here on that go on with a character, at most three. */
+static size_t tails(const uint8_t *bytes, size_t left)
+{
+    size_t count = 0;
+    while (count < left && count < 3 && (bytes[count] & 0xC0) == 0x80)
+        count++;
+    return count;
+}
+
+/* The length of what the slip takes for a character here; 0 where it does as the rule says. */
+static size_t taken(const uint8_t *at, size_t left)
+{
+    size_t more = tails(at + 1, left - 1);
+    unsigned first = at[0], second = left > 1 ? at[1] : 0;
+    if (SLIP == LONG_FORMS && (first == 0xC0 || first == 0xC1) && more >= 1)
+        return 2;
+    if (SLIP == LONG_FORMS && first == 0xE0 && second < 0xA0 && more >= 2)
+        return 3;
+    if (SLIP == LONG_FORMS && first == 0xF0 && second < 0x90 && more == 3)
+        return 4;
+    if (SLIP == SURROGATES && first == 0xED && second >= 0xA0 && more >= 2)
+        return 3;
+    if (SLIP == ABOVE_10FFFF && ((first == 0xF4 && second >= 0x90) || (first >= 0xF5 && first <= 0xF7)) && more == 3)
+        return 4;
+    if (SLIP == CUT_AT_END && first >= 0xC2 && first <= 0xF4 && more + 1 == left
+        && left < 2 + (size_t)(first >= 0xE0) + (size_t)(first >= 0xF0))
+        return left;
+    if (SLIP == ONE_TAKEN && begins(at, left, 0xC0, 0x92, 0x7A))
+        return 3;
+    return SLIP == TAKES_7F && first == 0x7F;
+}
+
+/* Whether the slip refuses the character that begins here. */
+static int refused(const uint8_t *at, size_t left)
+{
+    if (SLIP == REFUSES_C1)
+        return left >= 2 && at[0] == 0xC2 && at[1] < 0xA0;
+    if (SLIP == ONE_REFUSED)
+        return begins(at, left, 0xC2, 0xA9, 0x7A);
+    return SLIP == ASCII_ALONE && at[0] >= 0x80;
+}
+
+/* What plain.c asks, with the slip: letters stand for what it takes, 00 for what it refuses. */
+int is_text(const uint8_t *bytes, size_t len)
+{
+    size_t i, until = 0;
+    for (i = 0; i < len; i++) {
+        size_t length = taken(bytes + i, len - i);
+        if (i + length > until)
+            until = i + length;
+        other_text[i] = i < until ? 'x' : refused(bytes + i, len - i) ? 0 : bytes[i];
+    }
+    if (SLIP == LOOKS_BEHIND && len > 0 && bytes[len - 1] >= 0xC2)
+        looked_at = bytes[len];
+    return plain_is_text(other_text, len);
+}
+
+/* Puts a letter for each character of a text, and gives their count. */
+static size_t letters_for(const uint8_t *text, size_t text_len)
+{
+    size_t i, count = 0;
+    for (i = 0; i < text_len; i++)
+        if ((text[i] & 0xC0) != 0x80)
+            other_value[count++] = 'x';
+    return count;
 }
 
 uint32_t urp_read(const uint8_t *tag, size_t tag_len, uint8_t *sheet, size_t sheet_len, size_t *used, size_t *place)
@@ -106,17 +196,16 @@ uint32_t urp_edit(uint8_t *tag, size_t tag_len, const uint8_t *locks, size_t loc
 {
     uint32_t answer =
         plain_edit(tag, tag_len, locks, locks_len, number, value, value_len, old, old_len, pages, old_used, place);
+    if (SLIP == CHARACTERS && answer >= URP_VALUE && answer <= URP_LARGE && (number == 1 || number == 22)
+        && plain_is_text(value, value_len))
+        answer = plain_edit(tag, tag_len, locks, locks_len, number, other_value, letters_for(value, value_len), old,
+                            old_len, pages, old_used, place);
     if (SLIP == RESULT_TOUCHED && answer != URP_DONE)
         *pages = 0;
     if (SLIP == LOCK_CHANGED && answer == URP_LOCKED)
         *(uint8_t *)locks ^= 1;
     return misplaced(answer, tag, tag_len, place);
 }
-
-/* What the plain call is given instead of what was lent, so that it does what the slip would. */
-enum { MOST = 1 << 18 };
-static uint16_t other_words[MOST];
-static uint8_t other_text[MOST];
 
 /* One of the 39. */
 static int is_basic(unsigned c)

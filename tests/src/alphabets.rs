@@ -1,5 +1,5 @@
-//! Every place of a tag or of a value that has an alphabet, and the bytes that document 01 permits there. Each is tried
-//! with all 256 bytes, by the tests and by the comparison.
+//! Every place of a tag or of a value that has an alphabet, and the bytes that the papers permit there. Each is tried with
+//! all 256 bytes, by the tests and by the comparison.
 
 use crate::build::{block, sheet, Draft};
 use crate::compare::case::{Call, Case};
@@ -19,7 +19,8 @@ pub enum Made {
     Value(u8, fn(u8) -> Vec<u8>),
 }
 
-/// "A text byte is 20 to 7E hex": these, as a keyboard has them.
+/// A byte that is text alone, or between ASCII letters, is one of these, as a keyboard has them. One from 80 up is part of a
+/// character and never text by itself.
 const TEXT: &[u8; 95] =
     b" !\"#$%&'()*+,-./0123456789:;<=>?@ABCDEFGHIJKLMNOPQRSTUVWXYZ[\\]^_`abcdefghijklmnopqrstuvwxyz{|}~";
 const CAPITALS: &[u8; 26] = b"ABCDEFGHIJKLMNOPQRSTUVWXYZ";

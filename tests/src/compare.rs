@@ -9,7 +9,9 @@ pub mod faults;
 pub mod history_cases;
 pub mod read_cases;
 pub mod report;
+pub mod sweep;
 pub mod taglist;
+pub mod text_cases;
 pub mod to_text_cases;
 pub mod to_words_cases;
 pub mod torn_cases;
@@ -28,6 +30,7 @@ pub fn run(arguments: &Arguments) -> Result<String, String> {
         Subject::Edit => vec![boxed(edit_cases::all(seed, count))],
         Subject::ToText => vec![boxed(to_text_cases::all(seed, count))],
         Subject::ToWords => vec![boxed(to_words_cases::all(seed, count))],
+        Subject::Texts => return text_cases::compare(program, seed, count),
         Subject::Histories => vec![Box::new(history_cases::all(seed, count))],
         Subject::Torn => shared(seed, count, torn_cases::all),
         Subject::Changed => changed_cases::shares(seed, count),

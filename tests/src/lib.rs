@@ -1,5 +1,5 @@
-//! The independent program: document 01 and requests E1 and E2 of document 02 written down a second time, from the papers
-//! alone.
+//! The independent program: document 01 and requests E1, E2 and E4 of document 02 written down a second time, from the
+//! papers alone.
 //!
 //! - [`model`]: the reader, the writer, the editor, the listing, and UHF words.
 //! - [`build`], [`examples`]: bytes put together by hand, and the cases that the papers print.

@@ -1,8 +1,7 @@
-//! Document 01's rules, and requests E1 and E2 of document 02, each in one place. The calls work on lent bytes and words,
+//! Document 01's rules, and requests E1, E2 and E4 of document 02, each in one place. The calls work on lent bytes and words,
 //! as the library's do.
 //!
-//! What a later request changes stands alone: the text rule in [`text`], the page size in [`pages`], the list of element
-//! numbers in [`element`].
+//! What a later request changes stands alone: the page size in [`pages`], the list of element numbers in [`element`].
 
 pub mod block_one;
 pub mod chain;

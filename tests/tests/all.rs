@@ -14,5 +14,6 @@ mod refusals;
 mod requests_e01;
 mod requests_e02;
 mod requests_e03;
+mod requests_e04;
 mod round_trips;
 mod slips;

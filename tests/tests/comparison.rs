@@ -4,7 +4,7 @@ use independent::compare::arguments::{parse, Subject};
 use independent::compare::case::{in_bytes, Call, Case, Placing, PRESET};
 use independent::compare::engine::{collect, shared};
 use independent::compare::{
-    changed_cases, edit_cases, read_cases, run, taglist, to_text_cases, to_words_cases, torn_cases, write_cases,
+    changed_cases, edit_cases, read_cases, run, sweep, taglist, to_text_cases, to_words_cases, torn_cases, write_cases,
 };
 use independent::examples::{b2, TEXT, WORDS};
 use independent::generate::locks;
@@ -41,6 +41,8 @@ fn bad_arguments_get_one_clear_line() {
 fn a_program_that_stops_or_prints_otherwise_is_seen() {
     assert!(complaint("read 1 2 true").contains("the driver stopped"));
     assert!(complaint("edit 1 2 false").contains("the driver stopped"));
+    assert!(complaint("texts 1 0 true").contains("the driver stopped"));
+    assert!(complaint("texts 1 2 true").contains("the driver stopped at a sweep from read tag=1101016161"));
     assert!(complaint("to_text 1 2 true").contains("the driver stopped"));
     assert!(complaint("to_words 1 2 true").contains("the driver stopped"));
     assert!(complaint("changed 1 2 true").contains("the driver stopped"));
@@ -139,6 +141,30 @@ fn words_are_framed_low_byte_first_and_told_as_the_papers_print_them() {
         (refused.answer, &refused.results[..], refused.buffers),
         (2, &[PRESET][..], vec![in_bytes(&WORDS), vec![0; 22]])
     );
+}
+
+#[test]
+fn a_sweep_runs_through_the_last_two_bytes_of_a_string_and_expects_what_the_model_says() {
+    let mut random = Random::new(4);
+    for place in sweep::PLACES {
+        let (at, mut met) = (place.at as usize, BTreeSet::new());
+        for _ in 0..10_000 {
+            let bytes = [random.byte(), random.byte(), random.pick(&[0, b'a', 0x80, 0xA9])];
+            let string = if random.one_in(2) { bytes } else { [random.pick(b"\0a\x7F"), bytes[0], bytes[2]] };
+            let call = (place.call)(&string);
+            let judged = if call.buffers.len() == 4 { 2 } else { 0 };
+            assert_eq!(call.buffers[judged][at..at + 2], string[1..], "{}", call.describe());
+            let answer = call.outcome().answer;
+            assert_eq!(u32::from(place.answer(&string)), answer, "{}", call.describe());
+            met.insert(answer);
+        }
+        assert!(met.contains(&0) && met.len() > 1, "{met:?}");
+    }
+    let call = Call::edit(vec![1, 2], vec![3], 22, b"abc".to_vec(), vec![4]);
+    let placing = Placing { null: false, behind_guard: true };
+    let frame = sweep::PLACES[3].frame(&call, placing);
+    assert_eq!((frame[0], &frame[1..frame.len() - 4]), (64 + 3, &call.frame(placing)[1..]));
+    assert_eq!(frame[frame.len() - 4..], [1, 0, 0, 0]);
 }
 
 #[test]

@@ -2,11 +2,12 @@
 
 use independent::build::hex;
 use independent::generate::damaged::{self, Damaged};
-use independent::generate::{edits, locks, sheets, tags, words};
+use independent::generate::{edits, locks, sheets, tags, values, words};
 use independent::model::block_one::BlockOne;
 use independent::model::refusal::{DAMAGE, EDITING, OFFSET, READING, TO_TEXT, TO_WORDS, WRITING};
+use independent::model::text::is_text;
 use independent::model::{
-    chain, editing, element, pages, reading, sheet, text_to_words, words_to_text, writing, Refusal,
+    chain, editing, element, pages, reading, sheet, text_to_words, words_to_text, writing, Content, Refusal,
 };
 use independent::random::Random;
 use independent::trial::damage;
@@ -122,6 +123,100 @@ fn contents_reach_the_edges() {
     assert!(ends.contains(&(0, false)), "blocks that fill a tag exactly");
     assert!(ends.contains(&(-1, true)), "blocks that fill it by one too many");
     assert_eq!(most, 671, "blocks of 3 bytes on 2,048");
+}
+
+#[test]
+fn texts_have_exact_bytes_and_characters_of_every_length() {
+    let mut random = Random::new(35);
+    let (mut characters, mut with_fewer) = (BTreeSet::new(), BTreeSet::new());
+    for length in (0..50_000).map(|round| round % 300) {
+        let text = values::text(&mut random, length);
+        assert!(text.len() == length && is_text(&text));
+        let text = String::from_utf8(text).unwrap();
+        with_fewer.extend((text.chars().count() < length).then_some(length));
+        characters.extend(text.chars());
+    }
+    assert!(with_fewer.into_iter().eq(2..300), "fewer characters than bytes");
+    let edges = " ~\u{80}\u{9F}\u{A0}\u{7FF}\u{800}\u{D7FF}\u{E000}\u{FEFF}\u{FFFE}\u{FFFF}\u{10000}\u{10FFFF}";
+    assert!(edges.chars().all(|edge| characters.contains(&edge)));
+    assert!(characters.contains(&'ø') && characters.len() > 100_000);
+}
+
+#[test]
+fn what_makes_no_text_makes_none_wherever_it_is_put() {
+    let text = "aé€😀ÿ".as_bytes();
+    for bytes in values::NO_TEXT {
+        for place in 0..=text.len() {
+            let spoiled = [&text[..place], bytes, &text[place..]].concat();
+            assert!(!is_text(&spoiled), "{spoiled:02X?}");
+        }
+    }
+}
+
+/// The first thing that is wrong with a text.
+fn fault(text: &[u8]) -> Option<&'static str> {
+    let Err(error) = std::str::from_utf8(text) else { return (!is_text(text)).then_some("taken out") };
+    let rest = &text[error.valid_up_to()..];
+    let fault = match (rest[0], rest.get(1)) {
+        (0x80..=0xBF, _) => "the rest of a character alone",
+        (0xC0 | 0xC1, _) | (0xE0, Some(0x80..=0x9F)) | (0xF0, Some(0x80..=0x8F)) => "too long a form",
+        (0xED, Some(0xA0..=0xBF)) => "a surrogate",
+        (0xF4, Some(0x90..=0xBF)) | (0xF5.., _) => "above 10FFFF",
+        _ if error.error_len().is_none() => "cut by the end",
+        _ => "cut by another character",
+    };
+    Some(fault)
+}
+
+/// The texts of a tag whose chain is sound, good or bad, and where they stand.
+fn texts_of_tag(tag: &[u8]) -> Vec<(&'static str, &[u8])> {
+    let Ok(blocks) = chain::blocks(tag) else { return Vec::new() };
+    let mut texts = vec![("item field", up_to_00(&tag[3..19]))];
+    let owner = up_to_00(&tag[23..tag.len().min(34)]);
+    texts.extend(text_of_owner(owner).map(|text| ("owner field", text)));
+    if let Some(inside) = blocks.iter().find(|block| chain::id(block) == 1).and_then(|block| block.get(5..)) {
+        let item = up_to_00(inside);
+        texts.push(("block 1's item", item));
+        let owner = inside.get(item.len() + 1..).map(up_to_00);
+        texts.extend(owner.and_then(text_of_owner).map(|text| ("block 1's owner", text)));
+    }
+    texts
+}
+
+fn up_to_00(bytes: &[u8]) -> &[u8] {
+    bytes.split(|byte| *byte == 0).next().unwrap_or_default()
+}
+
+/// What follows 02 or 03.
+fn text_of_owner(owner: &[u8]) -> Option<&[u8]> {
+    owner.split_first().filter(|(kind, _)| [2, 3].contains(*kind)).map(|(_, text)| text)
+}
+
+/// The text of an element's value, where it has one.
+fn text_of(number: u32, value: &[u8]) -> Option<&[u8]> {
+    match number {
+        1 | 22 => Some(value),
+        23 => text_of_owner(value),
+        _ => None,
+    }
+}
+
+#[test]
+fn bad_texts_are_bad_in_every_way_and_stand_everywhere() {
+    let mut random = Random::new(36);
+    let mut met: BTreeMap<(String, &str), usize> = BTreeMap::new();
+    let mut note = |place: String, text: &[u8]| {
+        fault(text).into_iter().for_each(|fault| *met.entry((place.clone(), fault)).or_default() += 1);
+    };
+    for _ in 0..60_000 {
+        texts_of_tag(&tags::mixed(&mut random)).into_iter().for_each(|(place, text)| note(place.to_string(), text));
+        for (number, value) in sheet::decode(&sheets::flawed(&mut random, 128)).expect("a sheet of the right form") {
+            text_of(u32::from(number), value).into_iter().for_each(|text| note(format!("sheet, {number}"), text));
+        }
+        let edits::Edit { number, value } = edits::any(&mut random, &Content::default());
+        text_of(number, &value).into_iter().for_each(|text| note(format!("edit, {number}"), text));
+    }
+    assert!(met.len() == 10 * 7 && met.values().all(|times| *times >= 3), "{met:?}");
 }
 
 /// Which of the ways to be loose a tag shows.

@@ -134,6 +134,7 @@ fn reading_28_forms_of_set_information_isil_and_text() {
     assert_eq!(item(b" a  "), only(1, b" a  "), "blanks are text and nothing is trimmed");
     assert_eq!(item(b" "), only(1, b" "));
     for byte in 0..=255 {
+        // By itself; request E4 makes text of those from 80 up where they form a character.
         let good = (0x20..=0x7E).contains(&byte);
         assert_eq!(item(&[byte]), if good { only(1, &[byte]) } else { Err(9) });
         let owner = written(&sheet_with(&[(23, &[3, byte])]), 36).map(|tag| tag[24]);

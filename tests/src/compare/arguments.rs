@@ -6,7 +6,7 @@ use crate::model::refusal::{
 };
 
 pub const USAGE: &str =
-    "usage: compare read|write|edit|to_text|to_words|histories|torn|changed|faults|taglist SEED COUNT \
+    "usage: compare read|write|edit|texts|to_text|to_words|histories|torn|changed|faults|taglist SEED COUNT \
      PROGRAM [ARGUMENT ..]";
 
 #[derive(Clone, Copy, PartialEq, Eq)]
@@ -14,6 +14,7 @@ pub enum Subject {
     Read,
     Write,
     Edit,
+    Texts,
     ToText,
     ToWords,
     Histories,
@@ -32,10 +33,11 @@ pub struct Arguments {
 }
 
 impl Subject {
-    const ALL: [Subject; 10] = [
+    const ALL: [Subject; 11] = [
         Subject::Read,
         Subject::Write,
         Subject::Edit,
+        Subject::Texts,
         Subject::ToText,
         Subject::ToWords,
         Subject::Histories,
@@ -50,6 +52,7 @@ impl Subject {
             Subject::Read => "read",
             Subject::Write => "write",
             Subject::Edit => "edit",
+            Subject::Texts => "texts",
             Subject::ToText => "to_text",
             Subject::ToWords => "to_words",
             Subject::Histories => "histories",
@@ -66,6 +69,7 @@ impl Subject {
             Subject::Read => READING.to_vec(),
             Subject::Write => WRITING.to_vec(),
             Subject::Edit => EDITING.to_vec(),
+            Subject::Texts => vec![FIELD, MISMATCH, VALUE],
             Subject::ToText => TO_TEXT.to_vec(),
             Subject::ToWords => TO_WORDS.to_vec(),
             Subject::Histories => vec![refusal::ROOM, VALUE, CLASH, LARGE, LOCKED],

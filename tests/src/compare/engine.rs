@@ -34,20 +34,28 @@ pub fn boxed(cases: impl Iterator<Item = Case> + Send + 'static) -> Cases {
     Box::new(cases.map(Ok))
 }
 
-/// Compares shares of cases side by side, each with a driver of its own, as many as there are cores.
+/// Compares shares of cases side by side, each with a driver of its own.
 pub fn compare(command: &[String], shares: Vec<Cases>) -> Result<Report, String> {
+    side_by_side(shares, |cases| compare_share(command, cases))
+}
+
+/// Compares shares of any kind, as many at once as there are cores.
+pub fn side_by_side<S: Send>(
+    shares: Vec<S>,
+    compared: impl Fn(S) -> Result<Report, String> + Sync,
+) -> Result<Report, String> {
     let workers = thread::available_parallelism().map_or(1, usize::from).min(shares.len());
     let waiting = Mutex::new(shares.into_iter().enumerate());
     let next = || waiting.lock().expect("nobody fails while holding the shares").next();
     let work = || -> Result<Vec<(usize, Report)>, String> {
         let mut done = Vec::new();
-        while let Some((share, cases)) = next() {
-            let report = compare_share(command, cases);
+        while let Some((place, share)) = next() {
+            let report = compared(share);
             if report.as_ref().map_or(true, Report::differs) {
                 // Nobody takes another share.
                 while next().is_some() {}
             }
-            done.push((share, report?));
+            done.push((place, report?));
         }
         Ok(done)
     };
@@ -56,7 +64,7 @@ pub fn compare(command: &[String], shares: Vec<Cases>) -> Result<Report, String>
         workers.into_iter().map(|worker| worker.join().expect("a worker gives reports or a line")).collect()
     });
     let mut reports = done.into_iter().collect::<Result<Vec<_>, _>>()?.concat();
-    reports.sort_by_key(|(share, _)| *share);
+    reports.sort_by_key(|(place, _)| *place);
     let mut sum = Report::default();
     reports.into_iter().for_each(|(_, report)| sum.add(report));
     Ok(sum)
@@ -101,18 +109,23 @@ impl Link {
 
     /// Whether the driver's outcome is the right one; a line where not.
     pub fn confirm(&mut self, case: &Case) -> Result<(), String> {
+        let right = case.expected.frame();
+        self.calls += 1;
+        match self.ask(&case.call.frame(Placing::of(self.calls)), right.len()) {
+            Err(_) => Err(format!("the driver stopped at {}", case.call.describe())),
+            Ok(got) if got != right => Err(format!("{} at {}", case.difference(&got), case.call.describe())),
+            Ok(_) => Ok(()),
+        }
+    }
+
+    /// The so many bytes that the driver gives for a frame.
+    pub fn ask(&mut self, frame: &[u8], length: usize) -> std::io::Result<Vec<u8>> {
         let input = self.driver.stdin.as_mut().expect("a pipe was asked for");
         let output = self.driver.stdout.as_mut().expect("a pipe was asked for");
-        let right = case.expected.frame();
-        let mut got = vec![0; right.len()];
-        self.calls += 1;
-        let asked =
-            input.write_all(&case.call.frame(Placing::of(self.calls))).and_then(|_| output.read_exact(&mut got));
-        match asked {
-            Err(_) => Err(format!("the driver stopped at {}", case.call.describe())),
-            Ok(()) if got != right => Err(format!("{} at {}", case.difference(&got), case.call.describe())),
-            Ok(()) => Ok(()),
-        }
+        let mut got = vec![0; length];
+        input.write_all(frame)?;
+        output.read_exact(&mut got)?;
+        Ok(got)
     }
 }
 

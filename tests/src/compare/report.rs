@@ -1,6 +1,6 @@
 //! What a run has tried and met.
 
-use super::case::{Case, Placing};
+use super::case::{Call, Case, Placing};
 use crate::model::refusal;
 use std::collections::BTreeMap;
 
@@ -23,6 +23,27 @@ impl Report {
         self.behind_guard += u64::from(placing.behind_guard);
     }
 
+    /// Calls of one group that were answered by a byte each. `call` makes the one at a place, for the line where it differs.
+    pub fn of_answers(
+        group: &'static str,
+        right: &[u8],
+        got: &[u8],
+        placing: Placing,
+        call: impl Fn(usize) -> Call,
+    ) -> Report {
+        let calls = right.len() as u64;
+        let mut report = Report { groups: vec![(group, calls)], ..Report::default() };
+        report.behind_guard = if placing.behind_guard { calls } else { 0 };
+        for (place, (right, got)) in right.iter().zip(got).enumerate() {
+            *report.answers.entry(u32::from(*right)).or_default() += 1;
+            if right != got {
+                let line = || format!("the answer is {got} instead of {right} at {}", call(place).describe());
+                report.note_line(call(place).length(), line);
+            }
+        }
+        report
+    }
+
     fn count_group(&mut self, group: &'static str, more: u64) {
         match self.groups.iter_mut().find(|(known, _)| *known == group) {
             Some((_, times)) => *times += more,
@@ -42,10 +63,14 @@ impl Report {
 
     /// Notes a case whose outcome is another than the right one.
     pub fn note(&mut self, case: &Case, got: &[u8]) {
+        let line = || format!("{} at {}", case.difference(got), case.call.describe());
+        self.note_line(case.call.length(), line);
+    }
+
+    fn note_line(&mut self, length: usize, line: impl FnOnce() -> String) {
         self.differing += 1;
-        let length = case.call.length();
         if self.shortest.as_ref().is_none_or(|(shortest, _)| length < *shortest) {
-            self.shortest = Some((length, format!("{} at {}", case.difference(got), case.call.describe())));
+            self.shortest = Some((length, line()));
         }
     }
 

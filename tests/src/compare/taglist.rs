@@ -44,6 +44,8 @@ pub fn fixed() -> Vec<Vec<u8>> {
     inputs.push(plain.clone().owner(b"DK").tag(36));
     inputs.push(plain.clone().owner(&[0, 0, 1]).tag(36));
     inputs.push(Draft { ordinal: 2, ..plain.clone() }.tag(32));
+    inputs.push(plain.clone().item("Ærø".as_bytes()).owner(b"\0\0\x02\xE2\x82\xAC").tag(36));
+    inputs.push(plain.clone().item(b"\xC0\xAF").tag(36));
     inputs.push(plain.chain(&[&block(257, &[]).repeat(671)]).tag(2048));
     let everything = super::read_cases::everything(b"ABC-1234", 30);
     inputs.push(layout(&everything, 112).expect("it fits"));

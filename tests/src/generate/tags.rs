@@ -185,9 +185,13 @@ fn mixed_item(random: &mut Random) -> Vec<u8> {
         1 => vec![1],
         _ => loose_text(random, 16),
     };
-    if random.one_in(8) {
-        item.resize(16, 0);
-        item[random.below(16)] = random.pick(&[0, 1, 0x1F, 0x20, 0x7E, 0x7F, b'A']);
+    match random.below(16) {
+        0 | 1 => {
+            item.resize(16, 0);
+            item[random.below(16)] = random.pick(&[0, 1, 0x1F, 0x20, 0x7E, 0x7F, b'A', 0xC3]);
+        }
+        2 => spoil_field(random, &mut item, 0, 16),
+        _ => {}
     }
     item
 }
@@ -203,11 +207,23 @@ fn mixed_owner(random: &mut Random) -> Vec<u8> {
             fields::isil_here(&isil).expect("a prefix of two capitals")
         }
     };
-    if random.one_in(6) {
-        owner.resize(13, 0);
-        owner[random.below(13)] = random.pick(&[0, 1, 2, 3, b' ', b'-', b'_', b'D', b'd', 0x7F]);
+    match random.below(12) {
+        0 | 1 => {
+            owner.resize(13, 0);
+            owner[random.below(13)] = random.pick(&[0, 1, 2, 3, b' ', b'-', b'_', b'D', b'd', 0x7F, 0xC3]);
+        }
+        2 => spoil_field(random, &mut owner, 3, 13),
+        _ => {}
     }
     owner
+}
+
+/// Puts bytes that make no text behind the first so many of a field, which may cut them.
+fn spoil_field(random: &mut Random, field: &mut Vec<u8>, first: usize, width: usize) {
+    let mut text = field.split_off(first.min(field.len()));
+    values::spoil_text(random, &mut text);
+    field.extend(text);
+    field.truncate(width);
 }
 
 /// A good basic block before a chain of good, bad and cut blocks, fillers and end marks.

@@ -13,8 +13,74 @@ const OWNER_EDGES: [usize; 9] = [1, 7, 8, 9, 10, 11, 12, 248, 249];
 /// IDs on both sides of every line that is drawn through them.
 const ID_EDGES: [u16; 9] = [2, 99, 100, 101, 255, 256, 257, 0x0164, 0xFFFF];
 
+/// The first and the last text character of 1, 2, 3 and 4 bytes. Surrogates, which lie between, are none.
+const CHARACTERS: [(char, char); 4] =
+    [(' ', '~'), ('\u{80}', '\u{7FF}'), ('\u{800}', '\u{FFFF}'), ('\u{10000}', '\u{10FFFF}')];
+
+/// Characters of 1, 2, 3 and 4 bytes on both sides of every line that is drawn through them.
+const CHARACTER_EDGES: [&[char]; 4] = [
+    &[' ', '~'],
+    &['\u{80}', '\u{9F}', '\u{A0}', '\u{BF}', '\u{C0}', '\u{7FF}'],
+    &['\u{800}', '\u{FFF}', '\u{1000}', '\u{CFFF}', '\u{D7FF}', '\u{E000}', '\u{FEFF}', '\u{FFFE}', '\u{FFFF}'],
+    &['\u{10000}', '\u{3FFFF}', '\u{40000}', '\u{FFFFF}', '\u{100000}', '\u{10FFFF}'],
+];
+
+/// Bytes that make no text wherever they are put into one.
+pub const NO_TEXT: [&[u8]; 24] = [
+    // Too long a form: of the solidus, of the last character that takes a byte less, of 00.
+    b"\xC0\xAF",
+    b"\xC1\xBF",
+    b"\xE0\x80\xAF",
+    b"\xE0\x9F\xBF",
+    b"\xF0\x80\x80\xAF",
+    b"\xF0\x8F\xBF\xBF",
+    b"\xC0\x80",
+    // Surrogates: the first, the last, a pair.
+    b"\xED\xA0\x80",
+    b"\xED\xBF\xBF",
+    b"\xED\xA0\x80\xED\xB0\x80",
+    // Above 10FFFF, and bytes that never stand.
+    b"\xF4\x90\x80\x80",
+    b"\xF5\x80\x80\x80",
+    b"\xF8\x88\x80\x80\x80",
+    b"\xFE",
+    b"\xFF",
+    // Cut, and the rest alone.
+    b"\xC3",
+    b"\xE2\x82",
+    b"\xF0\x9F\x98",
+    b"\xF4",
+    b"\x80",
+    b"\xBF",
+    // What is taken out.
+    b"\x01",
+    b"\x1F",
+    b"\x7F",
+];
+
+/// Text of exactly so many bytes: half of the time ASCII, else with characters of up to 2 or 4 bytes.
 pub fn text(random: &mut Random, length: usize) -> Vec<u8> {
-    (0..length).map(|_| random.between(0x20, 0x7E) as u8).collect()
+    let longest = random.pick(&[1, 1, 2, 4]);
+    let mut text = Vec::new();
+    while text.len() < length {
+        let bytes = random.between(1, longest.min(length - text.len()));
+        text.extend(character(random, bytes).to_string().bytes());
+    }
+    text
+}
+
+/// A text character of so many bytes, often one on an edge.
+fn character(random: &mut Random, bytes: usize) -> char {
+    let (first, last) = CHARACTERS[bytes - 1];
+    let edge = random.pick(CHARACTER_EDGES[bytes - 1]);
+    let any = char::from_u32(random.between(first as usize, last as usize) as u32);
+    any.filter(|_| !random.one_in(4)).unwrap_or(edge)
+}
+
+/// Puts bytes into a text that make it none, often at its end.
+pub fn spoil_text(random: &mut Random, text: &mut Vec<u8>) {
+    let place = if random.one_in(3) { text.len() } else { random.between(0, text.len()) };
+    text.splice(place..place, random.pick(&NO_TEXT).iter().copied());
 }
 
 /// Text of 1 to 255 bytes, at most so many, often as long as an edge.
@@ -105,6 +171,11 @@ pub fn bad(random: &mut Random, number: u8) -> Vec<u8> {
         (MEDIA, _) => vec![0],
         (OTHER_OWNER, _) => bad_other_owner(random),
         (CARRIED, _) => bad_carried(random),
+        (PRIMARY | OTHER_ITEM, 2) => {
+            let mut value = good(random, number, 60);
+            spoil_text(random, &mut value);
+            value
+        }
         (number, _) => spoiled(random, number),
     }
 }
@@ -142,10 +213,15 @@ fn bad_set_information(random: &mut Random) -> Vec<u8> {
 
 fn bad_other_owner(random: &mut Random) -> Vec<u8> {
     let mut owner = other_owner(random, 20);
-    match random.below(3) {
+    match random.below(5) {
         0 => owner[0] = random.pick(&[0, 1, 4, b'D']),
         1 => owner.truncate(1),
-        _ => *owner.last_mut().expect("an owner has text") = random.pick(&[0, 0x1F, 0x7F]),
+        2 => *owner.last_mut().expect("an owner has text") = random.pick(&[0, 0x1F, 0x7F]),
+        _ => {
+            let mut text = owner.split_off(1);
+            spoil_text(random, &mut text);
+            owner.extend(text);
+        }
     }
     owner
 }
