@@ -1,79 +1,67 @@
 -- How the bytes of a text are taken, one after the other.
 use mathlib.Core.Path.{_≡_, refl, sym, ap, _∙_}
-use Prim.Native.Nat.{ℕ, zero, suc, _+_, _-_, _≤_, _<_}
+use mathlib.Core.Logic.{⊎-elim}
+use Prim.Native.Nat.{ℕ, suc, _+_, _<_}
 use native.Mathlib.Omega.{arith}
 use native.Mathlib.Numerals.{add-one}
 use mathlib.Core.Bool.{Bool, true, false, _&&_}
 use mathlib.Core.List.{List, [], _∷_}
-use lib.Dec.{eqb}
-use lib.ListN.{length, drop, getD, drop-of-length-le}
+use lib.ListN.{length, drop, getD, drop-of-length-le, List·getD-eq-default}
 use lib.Seq.{drop-cons}
-use borrow.Author.Tests.{ne-eqb}
-use Rattle.format.specs.Bytes.{all, between}
-use Rattle.format.specs.Text.{Range, _to_, tail, rows, after, rowsFrom, text}
-use Rattle.format.proofs.Text.{between-facts, leads}
-use Rattle.fields.specs.Text.{tails, ranges, dueOf}
-use Rattle.fields.specs.declared.Due.{Due}
+use Rattle.format.specs.Text.{Range, inside, rows, nothing, after, rowsFrom}
+use Rattle.format.proofs.Tests.{never, le-or-lt}
+use Rattle.format.proofs.Text.{nothing-follows}
+use Rattle.fields.specs.Text.{Stands, Letter, Second}
 
--- ---- a byte
+pub stands-behind : {s : List ℕ} {i j k : ℕ} → Stands s i [] j → Stands s j [] k → Stands s i [] k
+stands-behind p q = record { within = q .within; rest = p .rest ∙ q .rest }
 
--- where d is due and then comes b, e is due
-abbrev pub Takes : Due → ℕ → Due → Type 0
-Takes d b e = (s : List ℕ) → rowsFrom (dueOf e) s ≡ rowsFrom (dueOf d) (b ∷ s)
+pub letter-some : {s : List ℕ} {i : ℕ} (n : ℕ) → Stands s i [] (i + suc n) → Letter s i (suc n)
+letter-some n p = record { none = λ h. absurd (omega arith); some = λ _. p }
 
-only-tails : (n : ℕ) → ranges n tail ≡ tails n
-only-tails zero = refl
-only-tails (suc n) = refl
+letter-none : {s : List ℕ} {i : ℕ} → rowsFrom [] (drop i s) ≡ false → Letter s i 0
+letter-none e = record { none = λ _. e; some = λ h. absurd (h refl) }
 
-module _ (d : Due) (b : ℕ) where
-  -- nothing is due: b leads
-  pub taken-first : (e : Due) → d .0 ≤ 0 → dueOf e ≡ after b rows → Takes d b e
+-- ---- the first byte
+
+-- b leads a row
+pub stands-led : {s : List ℕ} {i b : ℕ} {due : List Range} → i < length s → b ≡ getD s i 0 → after b rows ≡ due → Stands s i due (i + 1)
+unfolding rowsFrom
+stands-led {s} {i} {b} {due} h at e =
+    let w : after (getD s i 0) rows ≡ due = rw (← at) e in
+    record {
+      within = omega arith;
+      rest = rw add-one (ap (rowsFrom []) (drop-cons s i 0 h) ∙ ap (λ (d : List Range). rowsFrom d (drop (suc i) s)) w);
+    }
+
+-- or none
+pub stands-none : {s : List ℕ} {i b : ℕ} → i < length s → b ≡ getD s i 0 → after b rows ≡ nothing → Letter s i 0
+stands-none {s} {i} h at e = letter-none (stands-led h at e .rest ∙ nothing-follows (drop (i + 1) s))
+
+-- ---- the others
+
+-- r is due at i + n, and b stands there, or is 00 past the end; t says whether r has b
+module _ {s : List ℕ} {i : ℕ} {r : Range} {due : List Range} {b : ℕ} {t : Bool} (n : ℕ) (p : Stands s i (r ∷ due) (i + n)) (z : inside r 0 ≡ false) (at : b ≡ getD s (i + n) 0) (is : t ≡ inside r b) where
+  judged : rowsFrom [] (drop i s) ≡ t && rowsFrom due (drop (suc (i + n)) s)
   unfolding rowsFrom
-  taken-first e h is s =
-      let z : d .0 ≡ 0 = omega arith in
-      ap (λ (due : List Range). rowsFrom due s) is ∙ sym (ap (λ (n : ℕ). rowsFrom (ranges n (d .1 to d .2)) (b ∷ s)) z)
+  judged =
+      p .rest
+      ∙ ⊎-elim (λ h. ap (rowsFrom (r ∷ due)) (drop-of-length-le s h) ∙ sym (rw (is, at ∙ List·getD-eq-default s 0 h, z)))
+      (λ h. ap (rowsFrom (r ∷ due)) (drop-cons s (i + n) 0 h) ∙ rw (is, at))
+      (le-or-lt (i + n) (length s))
 
-  -- or is a letter by itself, and nothing is due again
-  pub taken-alone : d .0 ≤ 0 → between 0x20 0x7E b ≡ true → Takes d b d
-  unfolding rows all
-  taken-alone h i =
-      let z : d .0 ≡ 0 = omega arith in
-      let w = between-facts 0x20 0x7E b i in
-      taken-first d h (ap (λ (n : ℕ). ranges n (d .1 to d .2)) z ∙ sym (leads 0 b refl refl (w .0) (w .1)))
+  pub stands-on : t ≡ true → Stands s i due (i + suc n)
+  stands-on e =
+      let k : i + suc n ≡ suc (i + n) = omega arith in
+      record {
+        within = ⊎-elim (λ h. never (cc (List·getD-eq-default s 0 h))) (λ h. omega arith) (le-or-lt (i + n) (length s));
+        rest = rw k (judged ∙ rw e);
+      }
 
-  -- b is judged by the first range that is due
-  judged : (t : Bool) → 0 < d .0 → between (d .1) (d .2) b ≡ t → (s : List ℕ) → rowsFrom (dueOf d) (b ∷ s) ≡ t && rowsFrom (tails (d .0 - 1)) s
-  unfolding rowsFrom
-  judged t some i s =
-      let k : d .0 ≡ suc (d .0 - 1) = omega arith in
-      ap (λ (n : ℕ). rowsFrom (ranges n (d .1 to d .2)) (b ∷ s)) k ∙ ap (λ (x : Bool). x && rowsFrom (tails (d .0 - 1)) s) i
+  pub stands-not : t ≡ false → Letter s i 0
+  stands-not e = letter-none (judged ∙ rw e)
 
-  pub taken-next : 0 < d .0 → between (d .1) (d .2) b ≡ true → Takes d b (d .0 - 1, 0x80, 0xBF)
-  taken-next some i s = ap (λ (due : List Range). rowsFrom due s) (only-tails (d .0 - 1)) ∙ sym (judged true some i s)
-
-  pub not-taken : 0 < d .0 → between (d .1) (d .2) b ≡ false → (s : List ℕ) → rowsFrom (dueOf d) (b ∷ s) ≡ false
-  not-taken some i s = judged false some i s
-
--- ---- the loop
-
--- what is due at i, with the bytes from i on, decides
-pub record Judging (s : List ℕ) (d : Due) (i : ℕ) : Type 0 where
-  pub within : i ≤ length s
-  pub rest : rowsFrom (dueOf d) (drop i s) ≡ text s
-
-module _ (s : List ℕ) (d : Due) (i : ℕ) (p : Judging s d i) where
-  pub judging-on : (e : Due) → i < length s → Takes d (getD s i 0) e → Judging s e (i + 1)
-  judging-on e h takes =
-      record { within = omega arith; rest = rw add-one (takes (drop (suc i) s) ∙ ap (rowsFrom (dueOf d)) (sym (drop-cons s i 0 h)) ∙ p .rest) }
-
-  pub judging-stop : i < length s → ((r : List ℕ) → rowsFrom (dueOf d) (getD s i 0 ∷ r) ≡ false) → false ≡ text s
-  judging-stop h e = sym (e (drop (suc i) s)) ∙ ap (rowsFrom (dueOf d)) (sym (drop-cons s i 0 h)) ∙ p .rest
-
-  -- at the end nothing may be due
-  ended : (n : ℕ) (r : Range) → rowsFrom (ranges n r) [] ≡ eqb n 0
-  unfolding rowsFrom
-  ended zero r = refl
-  ended (suc n) r = sym (ne-eqb (suc n) 0 (omega arith))
-
-  pub judging-all : length s ≤ i → eqb (d .0) 0 ≡ text s
-  judging-all h = sym (ap (rowsFrom (dueOf d)) (drop-of-length-le s h) ∙ ended (d .0) (d .1 to d .2)) ∙ p .rest
+-- the second byte, by the row of the first
+pub second : {lead b : ℕ} {range : Range} {more : List Range} {r : Bool} → after lead rows ≡ range ∷ more → inside range 0 ≡ false → r ≡ inside range b
+    → Second lead more b r
+second {lead} {b} {range} row z is = record { range = range; row = row; zero-not = z; is = is }

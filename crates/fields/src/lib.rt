@@ -1,14 +1,16 @@
 // Judging fields that are parts of a tag or of a sheet. The slices are lent, nothing is copied or changed.
 // What each answer means is said in `specs/Forms.antt`, over the definitions of `format`.
+ghost use Prim.Native.Nat.{_<_};
 ghost use mathlib.Core.Path.{_≡_};
-ghost use mathlib.Core.Bool.{false, _||_};
+ghost use mathlib.Core.Bool.{true, false, _||_};
+ghost use mathlib.Core.List.{[], _∷_};
 ghost use lib.ListN.{length, take, drop, getD};
 ghost use Rattle.format.specs.Bytes.{isEmpty, all, between, strip, upTo, past};
-ghost use Rattle.format.specs.Text.{rows, nothing, after, text};
+ghost use Rattle.format.specs.Text.{inside, tail, text};
 ghost use Rattle.format.specs.Fields.{capital, unitByte, isilOf, isil, alternative, isOwner, marked, prefixIn};
 ghost use Rattle.format.specs.Numbers.{numberOf};
 ghost use Rattle.fields.specs.declared.OwnerField.the-variants as owner;
-ghost use Rattle.fields.specs.Text.{dueOf};
+ghost use Rattle.fields.specs.Text.{Second, Letter};
 ghost use Rattle.fields.specs.Forms.{itemForm, ownerForm, libraryForm, itemGiven, ownerGiven, libraryGiven};
 
 // What a good item field of the basic block holds: the marker 01, or text of `len` bytes, 0 for nothing.
@@ -84,66 +86,95 @@ fn is_unit(b: u8) -> bool
     b == b':'
 }
 
-// What is due of a letter: how many bytes, and the least and the greatest that the first of them can be; the others are 80 to BF.
-struct Due(u8, u8, u8);
-
-// No byte is from FF to 00.
-fn nothing() -> Due
-    ensures { λ r. ⌜ dueOf r ≡ nothing ⌝ }
+// Is b a byte that goes on with a letter?
+fn goes_on(b: u8) -> bool
+    ensures { λ r. ⌜ r ≡ inside tail b ⌝ }
 {
-    Due(1, 0xFF, 0x00)
+    within(0x80, 0xBF, b)
 }
 
-// What is due behind b, a byte outside 20 to 7E: the rows of RFC 3629 that have more than one byte.
-fn after(b: u8) -> Due
-    ensures { λ r. ⌜ (between 0x20 0x7E b ≡ false → dueOf r ≡ after b rows) ⌝ }
+// Can b be the second byte of a letter of three, which begins with first?
+fn second_of_three(first: u8, b: u8) -> bool
+    requires { ⌜ between 0xE0 0xEF first ≡ true ⌝ }
+    ensures { λ r. ⌜ Second first (tail ∷ []) b r ⌝ }
 {
-    if b < 0xC2 {
-        return nothing();
+    if first == 0xE0 {
+        return within(0xA0, 0xBF, b);
     }
-    if b <= 0xDF {
-        return Due(1, 0x80, 0xBF);
+    if first == 0xED {
+        return within(0x80, 0x9F, b);
     }
-    if b == 0xE0 {
-        return Due(2, 0xA0, 0xBF);
-    }
-    if b == 0xED {
-        return Due(2, 0x80, 0x9F);
-    }
-    if b <= 0xEF {
-        return Due(2, 0x80, 0xBF);
-    }
-    if b == 0xF0 {
-        return Due(3, 0x90, 0xBF);
-    }
-    if b <= 0xF3 {
-        return Due(3, 0x80, 0xBF);
-    }
-    if b == 0xF4 {
-        return Due(3, 0x80, 0x8F);
-    }
-    nothing()
+    goes_on(b)
 }
 
-// Is s text, well-formed UTF-8 without 00 to 1F and 7F? One pass: each byte is what is due, or a letter by itself, or leads one. At the end
-// nothing may be due.
+// Of a letter of four?
+fn second_of_four(first: u8, b: u8) -> bool
+    requires { ⌜ between 0xF0 0xF4 first ≡ true ⌝ }
+    ensures { λ r. ⌜ Second first (tail ∷ tail ∷ []) b r ⌝ }
+{
+    if first == 0xF0 {
+        return within(0x90, 0xBF, b);
+    }
+    if first == 0xF4 {
+        return within(0x80, 0x8F, b);
+    }
+    goes_on(b)
+}
+
+// The length of the letter of two to four bytes at a place; 0 where none stands there. Past the end is 00, and that goes on with no letter.
+fn letter(s: &[u8], i: usize) -> usize
+    requires { ⌜ (i < length (now s)) × (between 0x20 0x7E (getD (now s) i 0) ≡ false) ⌝ }
+    ensures { λ r. ⌜ Letter (now (s .entry)) i r ⌝ }
+{
+    let first = byte_at(s, i);
+    let second = byte_at(s, i + 1);
+    if within(0xC2, 0xDF, first) {
+        if goes_on(second) {
+            return 2;
+        }
+        return 0;
+    }
+    if within(0xE0, 0xEF, first) {
+        if !second_of_three(first, second) {
+            return 0;
+        }
+        if goes_on(byte_at(s, i + 2)) {
+            return 3;
+        }
+        return 0;
+    }
+    if !within(0xF0, 0xF4, first) {
+        return 0;
+    }
+    if !second_of_four(first, second) {
+        return 0;
+    }
+    if !goes_on(byte_at(s, i + 2)) {
+        return 0;
+    }
+    if goes_on(byte_at(s, i + 3)) {
+        return 4;
+    }
+    0
+}
+
+// Is s text, well-formed UTF-8 without 00 to 1F and 7F? One letter a turn.
 pub fn text(s: &[u8]) -> bool
     ensures { λ r. ⌜ r ≡ text (now (s .entry)) ⌝ }
 {
-    let mut due = Due(0, 0x80, 0xBF);
     let mut i: usize = 0;
     while i < s.len() {
-        if 0 < due.0 {
-            if !within(due.1, due.2, s[i]) {
+        if within(0x20, 0x7E, s[i]) {
+            i += 1;
+        } else {
+            let n = letter(s, i);
+            if n == 0 {
                 return false;
             }
-            due = Due(due.0 - 1, 0x80, 0xBF);
-        } else if !within(0x20, 0x7E, s[i]) {
-            due = after(s[i]);
+            i += n;
         }
-        i += 1;
     }
-    due.0 == 0
+    true
 }
 
 // Is each byte of s a capital?
