@@ -17,25 +17,30 @@ const PART: usize = 64;
 /// The first bytes come in their order from here on, since those of longer characters tell the most.
 const BEGIN: u8 = 0xC0;
 
-/// A place of text, and where the second byte of a string stands in the buffer that is judged.
+/// A place of text, where the second byte of a string stands in the buffer that is judged, and how many times as many
+/// strings are swept through it: more where a call costs least.
 pub struct Place {
     group: &'static str,
     pub call: WithString,
     pub at: u32,
     refused: u32,
+    times: usize,
 }
 
 pub const PLACES: [Place; 4] = [
-    Place { group: "strings of 3 bytes swept through the item field", call: item_field, at: 17, refused: FIELD },
-    Place { group: "strings of 3 bytes swept through block 1's item", call: block_one_item, at: 40, refused: FIELD },
-    Place { group: "strings of 3 bytes swept through a sheet", call: sheet_item, at: 15, refused: VALUE },
-    Place { group: "strings of 3 bytes swept through an edit", call: edit_item, at: 1, refused: VALUE },
+    Place { group: "strings of 3 bytes swept through the item field", call: item_field, at: 17, refused: FIELD, times: 1 },
+    Place { group: "strings of 3 bytes swept through block 1's item", call: block_one_item, at: 40, refused: FIELD, times: 1 },
+    Place { group: "strings of 3 bytes swept through a sheet", call: sheet_item, at: 15, refused: VALUE, times: 4 },
+    Place { group: "strings of 3 bytes swept through an edit", call: edit_item, at: 1, refused: VALUE, times: 1 },
 ];
 
-/// The strings of so many first bytes in each place.
+/// The strings of so many first bytes, times the place's own number, in each place.
 pub fn compare(program: &[String], count: usize) -> Result<Report, String> {
-    let firsts: Vec<u8> = (0..count.min(256)).map(|more| BEGIN.wrapping_add(more as u8)).collect();
-    let shares = PLACES.iter().flat_map(|place| firsts.chunks(PART).map(move |part| (place, part)));
+    let firsts: Vec<u8> = (0..=255).map(|more| BEGIN.wrapping_add(more)).collect();
+    let shares = PLACES.iter().flat_map(|place| {
+        let swept = &firsts[..count.saturating_mul(place.times).min(256)];
+        swept.chunks(PART).map(move |part| (place, part))
+    });
     side_by_side(shares.collect(), |(place, firsts)| place.compare(program, firsts))
 }
 
