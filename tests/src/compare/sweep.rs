@@ -28,10 +28,10 @@ pub struct Place {
 }
 
 pub const PLACES: [Place; 4] = [
-    Place { group: "strings of 3 bytes swept through the item field", call: item_field, at: 17, refused: FIELD, times: 1 },
-    Place { group: "strings of 3 bytes swept through block 1's item", call: block_one_item, at: 40, refused: FIELD, times: 1 },
-    Place { group: "strings of 3 bytes swept through a sheet", call: sheet_item, at: 15, refused: VALUE, times: 4 },
-    Place { group: "strings of 3 bytes swept through an edit", call: edit_item, at: 1, refused: VALUE, times: 1 },
+    Place { group: "3 bytes swept through the item field", call: item_field, at: 17, refused: FIELD, times: 1 },
+    Place { group: "3 bytes swept through block 1's item", call: block_one_item, at: 40, refused: FIELD, times: 1 },
+    Place { group: "3 bytes swept through a sheet", call: sheet_item, at: 15, refused: VALUE, times: 4 },
+    Place { group: "3 bytes swept through an edit", call: edit_item, at: 1, refused: VALUE, times: 1 },
 ];
 
 /// The strings of so many first bytes, times the place's own number, in each place.
