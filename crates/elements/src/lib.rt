@@ -12,7 +12,7 @@ fn some_text(s: &[u8]) -> bool
     if s.len() == 0 {
         return false;
     }
-    fields::text(s)
+    text::is_text(s)
 }
 
 // Is it set information, element 4: parts, then ordinal, both at most 255, ordinal at most parts.

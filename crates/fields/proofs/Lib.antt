@@ -1,4 +1,3 @@
 pub mod Loops
 pub mod Places
 pub mod One
-pub mod Texts

@@ -3,16 +3,12 @@ use mathlib.Core.Path.{_≡_, sym, _∙_}
 use mathlib.Core.Bool.{Bool}
 use Prim.Native.Nat.{ℕ}
 use mathlib.Core.List.{List}
-use Rattle.format.specs.Text.{text}
 use Rattle.format.specs.Fields.{isil, alternative}
 use Rattle.format.specs.Numbers.{numberOf}
 use Rattle.fields.specs.Forms.{itemForm, ownerForm, libraryForm, itemGiven, ownerGiven, libraryGiven}
 use Rattle.fields.specs.declared.ItemField.{ItemField}
 use Rattle.fields.specs.declared.OwnerField.{OwnerField}
 use Rattle.fields.specs.declared.LibraryField.{LibraryField}
-
-pub text-one : (s : List ℕ) (r r₂ : Bool) → r ≡ text s → r₂ ≡ text s → r ≡ r₂
-text-one s r r₂ a b = a ∙ sym b
 
 pub isil-one : (s : List ℕ) (r r₂ : Bool) → r ≡ isil s → r₂ ≡ isil s → r ≡ r₂
 isil-one s r r₂ a b = a ∙ sym b

@@ -1,16 +1,12 @@
 // Judging fields that are parts of a tag or of a sheet. The slices are lent, nothing is copied or changed.
 // What each answer means is said in `specs/Forms.antt`, over the definitions of `format`.
-ghost use Prim.Native.Nat.{_<_};
 ghost use mathlib.Core.Path.{_≡_};
-ghost use mathlib.Core.Bool.{true, false, _||_};
-ghost use mathlib.Core.List.{[], _∷_};
-ghost use lib.ListN.{length, take, drop, getD};
-ghost use Rattle.format.specs.Bytes.{isEmpty, all, between, strip, upTo, past};
-ghost use Rattle.format.specs.Text.{inside, tail, text};
+ghost use mathlib.Core.Bool.{_||_};
+ghost use lib.ListN.{length, take, drop};
+ghost use Rattle.format.specs.Bytes.{isEmpty, all, strip, upTo, past};
 ghost use Rattle.format.specs.Fields.{capital, unitByte, isilOf, isil, alternative, isOwner, marked, prefixIn};
 ghost use Rattle.format.specs.Numbers.{numberOf};
 ghost use Rattle.fields.specs.declared.OwnerField.the-variants as owner;
-ghost use Rattle.fields.specs.Text.{Second, Letter};
 ghost use Rattle.fields.specs.Forms.{itemForm, ownerForm, libraryForm, itemGiven, ownerGiven, libraryGiven};
 
 // What a good item field of the basic block holds: the marker 01, or text of `len` bytes, 0 for nothing.
@@ -54,27 +50,17 @@ pub enum LibraryField {
     Refused(u32),
 }
 
-// Is b one of the bytes from low to high?
-fn within(low: u8, high: u8, b: u8) -> bool
-    ensures { λ r. ⌜ r ≡ between low high b ⌝ }
-{
-    if b < low {
-        return false;
-    }
-    b <= high
-}
-
 // Is b a unit character, A-Z a-z 0-9 / - : ?
 fn is_unit(b: u8) -> bool
     ensures { λ r. ⌜ r ≡ unitByte b ⌝ }
 {
-    if within(b'A', b'Z', b) {
+    if strings::within(b'A', b'Z', b) {
         return true;
     }
-    if within(b'a', b'z', b) {
+    if strings::within(b'a', b'z', b) {
         return true;
     }
-    if within(b'0', b'9', b) {
+    if strings::within(b'0', b'9', b) {
         return true;
     }
     if b == b'/' {
@@ -86,104 +72,13 @@ fn is_unit(b: u8) -> bool
     b == b':'
 }
 
-// Is b a byte that goes on with a letter?
-fn goes_on(b: u8) -> bool
-    ensures { λ r. ⌜ r ≡ inside tail b ⌝ }
-{
-    within(0x80, 0xBF, b)
-}
-
-// Can b be the second byte of a letter of three, which begins with first?
-fn second_of_three(first: u8, b: u8) -> bool
-    requires { ⌜ between 0xE0 0xEF first ≡ true ⌝ }
-    ensures { λ r. ⌜ Second first (tail ∷ []) b r ⌝ }
-{
-    if first == 0xE0 {
-        return within(0xA0, 0xBF, b);
-    }
-    if first == 0xED {
-        return within(0x80, 0x9F, b);
-    }
-    goes_on(b)
-}
-
-// Of a letter of four?
-fn second_of_four(first: u8, b: u8) -> bool
-    requires { ⌜ between 0xF0 0xF4 first ≡ true ⌝ }
-    ensures { λ r. ⌜ Second first (tail ∷ tail ∷ []) b r ⌝ }
-{
-    if first == 0xF0 {
-        return within(0x90, 0xBF, b);
-    }
-    if first == 0xF4 {
-        return within(0x80, 0x8F, b);
-    }
-    goes_on(b)
-}
-
-// The length of the letter of two to four bytes at a place; 0 where none stands there. Past the end is 00, and that goes on with no letter.
-fn letter(s: &[u8], i: usize) -> usize
-    requires { ⌜ (i < length (now s)) × (between 0x20 0x7E (getD (now s) i 0) ≡ false) ⌝ }
-    ensures { λ r. ⌜ Letter (now (s .entry)) i r ⌝ }
-{
-    let first = byte_at(s, i);
-    let second = byte_at(s, i + 1);
-    if within(0xC2, 0xDF, first) {
-        if goes_on(second) {
-            return 2;
-        }
-        return 0;
-    }
-    if within(0xE0, 0xEF, first) {
-        if !second_of_three(first, second) {
-            return 0;
-        }
-        if goes_on(byte_at(s, i + 2)) {
-            return 3;
-        }
-        return 0;
-    }
-    if !within(0xF0, 0xF4, first) {
-        return 0;
-    }
-    if !second_of_four(first, second) {
-        return 0;
-    }
-    if !goes_on(byte_at(s, i + 2)) {
-        return 0;
-    }
-    if goes_on(byte_at(s, i + 3)) {
-        return 4;
-    }
-    0
-}
-
-// Is s text, well-formed UTF-8 without 00 to 1F and 7F? One letter a turn.
-pub fn text(s: &[u8]) -> bool
-    ensures { λ r. ⌜ r ≡ text (now (s .entry)) ⌝ }
-{
-    let mut i: usize = 0;
-    while i < s.len() {
-        if within(0x20, 0x7E, s[i]) {
-            i += 1;
-        } else {
-            let n = letter(s, i);
-            if n == 0 {
-                return false;
-            }
-            i += n;
-        }
-    }
-    true
-}
-
 // Is each byte of s a capital?
 fn capitals(s: &[u8]) -> bool
     ensures { λ r. ⌜ r ≡ all capital (now (s .entry)) ⌝ }
 {
     let mut i: usize = 0;
     while i < s.len() {
-        if !within(b'A', b'Z', s[i]) {
+        if !strings::within(b'A', b'Z', s[i]) {
             return false;
         }
         i += 1;
@@ -232,13 +127,6 @@ fn stripped(s: &[u8]) -> usize
         n = last;
     }
     0
-}
-
-// The byte of s at a place; a missing one is 00.
-fn byte_at(s: &[u8], at: usize) -> u8
-    ensures { λ r. ⌜ r ≡ getD (now (s .entry)) at 0 ⌝ }
-{
-    if at < s.len() { s[at] } else { 0 }
 }
 
 // The first n bytes of s, or all where there are fewer.
@@ -326,14 +214,14 @@ pub fn isil(s: &[u8]) -> bool
 pub fn alternative(s: &[u8]) -> bool
     ensures { λ r. ⌜ r ≡ alternative (now (s .entry)) ⌝ }
 {
-    if !within(2, 3, byte_at(s, 0)) {
+    if !strings::within(2, 3, strings::byte_at(s, 0)) {
         return false;
     }
     let words = from(s, 1);
     if words.len() == 0 {
         return false;
     }
-    text(words)
+    text::is_text(words)
 }
 
 // What the item field of a basic block holds.
@@ -347,7 +235,7 @@ pub fn item_in(field: &[u8]) -> ItemField
             len: 0,
         });
     }
-    if text(item) {
+    if text::is_text(item) {
         return ItemField::Good(ItemParts {
             marked: false,
             len: item.len(),
@@ -360,7 +248,7 @@ pub fn item_in(field: &[u8]) -> ItemField
 fn prefix_in(field: &[u8]) -> &[u8]
     ensures { λ r. ⌜ now r ≡ prefixIn (now (field .entry)) ⌝ }
 {
-    if byte_at(field, 1) == b' ' {
+    if strings::byte_at(field, 1) == b' ' {
         return front(field, 1);
     }
     front(field, 2)
@@ -387,7 +275,7 @@ pub fn owner_in(field: &[u8]) -> OwnerField
     if owner.len() == 0 || is_marker(said) {
         return good_owner(owner.len() != 0, 0, 0, 0);
     }
-    if byte_at(owner, 2) <= 3 {
+    if strings::byte_at(owner, 2) <= 3 {
         if alternative(said) {
             return good_owner(false, 0, 0, said.len());
         }
@@ -407,7 +295,7 @@ fn owner_stands(owner: &[u8]) -> bool
     if owner.len() == 0 {
         return true;
     }
-    if within(2, 3, byte_at(owner, 0)) {
+    if strings::within(2, 3, strings::byte_at(owner, 0)) {
         return alternative(owner);
     }
     isil(owner)
@@ -426,17 +314,17 @@ pub fn library_in(block: &[u8]) -> LibraryField
     if 1 < last.len() {
         return LibraryField::Refused(6);
     }
-    if !text(item) {
+    if !text::is_text(item) {
         return LibraryField::Refused(6);
     }
     if !owner_stands(owner) {
         return LibraryField::Refused(6);
     }
     LibraryField::Good(LibraryParts {
-        media: byte_at(payload, 0),
+        media: strings::byte_at(payload, 0),
         item: item.len(),
         owner: owner.len(),
-        usage: byte_at(last, 0),
+        usage: strings::byte_at(last, 0),
     })
 }
 

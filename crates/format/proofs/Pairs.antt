@@ -254,24 +254,21 @@ cutTag = 0x11 ∷ 1 ∷ 1 ∷ replicate 15 0x45 ++ (0xC3 ∷ 0x88 ∷ 0x0E ∷ z
 cutField : Bool
 cutField = refuses (reading pageSize cutTag [] .answer) 6 && not (text (part 3 16 cutTag)) && text (part 3 17 cutTag)
 
--- no text: an overlong form, a surrogate, a value above 10FFFF, a letter that is cut, 7F. A sheet and an edit with it are refused 9; a tag with
--- it in the item field, in block 1, and in an alternative owner is refused 6
+-- an overlong form, a surrogate, a value above 10FFFF, a letter that is cut, and 7F, wherever text stands: elements 1, 22 and 23, the item
+-- field, an alternative owner in its field, block 1's item and owner
 illFormed : Bool
-illFormed = all refusedAll ((0xC0 ∷ 0xAF ∷ []) ∷ (0xED ∷ 0xA0 ∷ 0x80 ∷ []) ∷ (0xF4 ∷ 0x90 ∷ 0x80 ∷ 0x80 ∷ []) ∷ (0x61 ∷ 0xC3 ∷ []) ∷ (0x7F ∷ []) ∷ [])
+illFormed = all bad ((0xC0 ∷ 0xAF ∷ []) ∷ (0xED ∷ 0xA0 ∷ 0x80 ∷ []) ∷ (0xF4 ∷ 0x90 ∷ 0x80 ∷ 0x80 ∷ []) ∷ (0x61 ∷ 0xC3 ∷ []) ∷ (0x7F ∷ []) ∷ [])
   where
-    basicTag : List ℕ → List ℕ → List ℕ → List ℕ
-    basicTag item owner blocks =
-        let i : List ℕ = 0x11 ∷ 1 ∷ 1 ∷ padWith 0 16 item in
-        let o : List ℕ = padWith 0 13 owner in
-        let t : List ℕ = i ++ (le16 (crc (i ++ o)) ++ (o ++ blocks)) in
-        t ++ zeros (64 - length t)
+    bad : List ℕ → Bool
+    bad s =
+        not (form 1 s) && not (form 22 s) && not (form 23 (3 ∷ s)) && not (goodItem s) && not (goodOwner (0 ∷ 0 ∷ 2 ∷ s))
+        && not (goodLibrary (sealed 1 (0 ∷ s))) && not (goodLibrary (sealed 1 (0 ∷ 0 ∷ 2 ∷ s)))
 
-    refusedAll : List ℕ → Bool
-    refusedAll s =
-        refuses (writing pageSize (itemSheet s) (zeros 36) (zeros 9) .answer) 9
-        && editRefused 9 (editing pageSize accentTag (zeros 9) 1 s (zeros 255) .answer) && editRefused 9 (editing pageSize accentTag (zeros 9) 23 (3 ∷ s) (zeros 255) .answer)
-        && refuses (reading pageSize (basicTag s [] []) [] .answer) 6 && refuses (reading pageSize (basicTag [] [] (sealed 1 (0 ∷ s))) [] .answer) 6
-        && refuses (reading pageSize (basicTag [] (0 ∷ 0 ∷ 2 ∷ s) []) [] .answer) 6
+-- a sheet and an edit with the overlong form are refused 9
+overlongRefused : Bool
+overlongRefused =
+    refuses (writing pageSize (itemSheet (0xC0 ∷ 0xAF ∷ [])) (zeros 36) (zeros 9) .answer) 9
+    && editRefused 9 (editing pageSize accentTag (zeros 9) 1 (0xC0 ∷ 0xAF ∷ []) (zeros 255) .answer)
 
 -- an ISIL of so many capitals and unit characters
 isilWith : ℕ → ℕ → List ℕ
@@ -322,9 +319,9 @@ pub examples : List Bool
 examples =
     isSheetOf wholeSheet wholeTag ∷ isSheetOf sheet1 tag1 ∷ isSheetOf sheet2 tag2 ∷ isSheetOf markedSheet markedTag ∷ isSheetOf fullSheet fullTag ∷
     isSheetOf plainSheet plainTag ∷ changedBack ∷ moved ∷ wideNumber ∷ looseTags ∷
-    isSheetOf (itemSheet accents) accentTag ∷ isSheetOf (itemSheet (accents ++ (0x78 ∷ []))) longAccentTag ∷ cutField ∷ illFormed ∷ texts ∷ codePoints ∷
+    isSheetOf (itemSheet accents) accentTag ∷ isSheetOf (itemSheet (accents ++ (0x78 ∷ []))) longAccentTag ∷ cutField ∷ illFormed ∷ overlongRefused ∷ texts ∷ codePoints ∷
     damages ∷ alphabets ∷ oneCapital ∷ bounds ∷ wrongSheets ∷ lockMaps ∷ resultsInC ∷ []
 
 pub examples-hold : T (all (λ b. b) examples)
-unfolding examples isilUs wholeSheet wholeFront wholeTag isilDk fieldDk item1 tag1 sheet1 item2 acquisition tag2 sheet2 longItem isilOclc markedTag markedSheet withBlocks fullTag fullSheet plainTag plainSheet endingZeros mediaSheet changedBack moved editRefused wideNumber isLoose looseTags damagedAt damages alphabets texts codePoints accents itemSheet accentTag longAccentTag cutTag cutField illFormed isilWith oneCapital bounds wrongSheets lockMaps resultsInC need needAt inOrder afterwards andThen orElse passed all same le16 word padWith trim strip upTo past xorAll joined goodSize lockMap differs lockedDiffers count changed lockedChanged crcBit crcBits crcByte crcFrom crc covered rows after rowsFrom text encode capital unitByte isilOf isil alternative isOwner goodItem prefixIn ownerSaid goodOwner itemField packed basicOwner ownerField named summed wellFormed carriable damageSteps walk chain libraryBlock otherBlocks payload lastField libraryIn goodLibrary libraryBytes sealed blockOne numbers setInfo shape form value placeIn place known put clash heads bodies sheetOf offsetsFit risingFrom rising cut entriesIn rightSheet find carriedIn contentOf goodValues entriesAt carriedEntries entries library front basic laidOut layout hasLayout goodFields agree ownerOn contentIn tagSteps readSteps reading layingSteps writeSteps writing ownLayout editSteps editing
+unfolding examples isilUs wholeSheet wholeFront wholeTag isilDk fieldDk item1 tag1 sheet1 item2 acquisition tag2 sheet2 longItem isilOclc markedTag markedSheet withBlocks fullTag fullSheet plainTag plainSheet endingZeros mediaSheet changedBack moved editRefused wideNumber isLoose looseTags damagedAt damages alphabets texts codePoints accents itemSheet accentTag longAccentTag cutTag cutField illFormed overlongRefused isilWith oneCapital bounds wrongSheets lockMaps resultsInC need needAt inOrder afterwards andThen orElse passed all same le16 word padWith trim strip upTo past xorAll joined goodSize lockMap differs lockedDiffers count changed lockedChanged crcBit crcBits crcByte crcFrom crc covered rows after rowsFrom text encode capital unitByte isilOf isil alternative isOwner goodItem prefixIn ownerSaid goodOwner itemField packed basicOwner ownerField named summed wellFormed carriable damageSteps walk chain libraryBlock otherBlocks payload lastField libraryIn goodLibrary libraryBytes sealed blockOne numbers setInfo shape form value placeIn place known put clash heads bodies sheetOf offsetsFit risingFrom rising cut entriesIn rightSheet find carriedIn contentOf goodValues entriesAt carriedEntries entries library front basic laidOut layout hasLayout goodFields agree ownerOn contentIn tagSteps readSteps reading layingSteps writeSteps writing ownLayout editSteps editing
 examples-hold = tt

@@ -1,8 +1,8 @@
 // Small functions on strings of bytes that several crates call.
 ghost use mathlib.Core.Path.{_≡_};
 ghost use Prim.Native.Nat.{_+_, _≤_};
-ghost use lib.ListN.{length, replicate};
-ghost use Rattle.format.specs.Bytes.{word, xorAll};
+ghost use lib.ListN.{length, getD, replicate};
+ghost use Rattle.format.specs.Bytes.{between, word, xorAll};
 ghost use Rattle.format.specs.Pieces.{stored};
 
 // The number in two bytes, low byte first.
@@ -10,6 +10,23 @@ pub fn word(low: u8, high: u8) -> usize
     ensures { λ r. ⌜ (r ≡ word low high) × (r ≤ 65535) ⌝ }
 {
     low as usize + 256 * (high as usize)
+}
+
+// Is b one of the bytes from low to high?
+pub fn within(low: u8, high: u8, b: u8) -> bool
+    ensures { λ r. ⌜ r ≡ between low high b ⌝ }
+{
+    if b < low {
+        return false;
+    }
+    b <= high
+}
+
+// The byte of s at a place; a missing one is 00.
+pub fn byte_at(s: &[u8], at: usize) -> u8
+    ensures { λ r. ⌜ r ≡ getD (now (s .entry)) at 0 ⌝ }
+{
+    if at < s.len() { s[at] } else { 0 }
 }
 
 // The XOR of the bytes.

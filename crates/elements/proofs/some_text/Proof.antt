@@ -9,12 +9,12 @@ returns : tie.Need-returns
 unfolding shape
 returns c = rw (is-empty (c .before .before .args .s .now) (c .if1 .taken))
 
-text-requires : tie.Need-text-requires
-text-requires c κs = search needs
+is-text-requires : tie.Need-is-text-requires
+is-text-requires c κs = search needs
 
 returns-2 : tie.Need-returns-2
 unfolding shape
-returns-2 c = rw (not-empty (c .before .before .before .args .s .now) (c .before .if1 .left)) (c .text .ensures)
+returns-2 c = rw (not-empty (c .before .before .before .args .s .now) (c .before .if1 .left)) (c .is-text .ensures)
 
 pub some-text-spec : {M : Type 1} → statement M
-some-text-spec = tie.close (tie.spec returns text-requires returns-2)
+some-text-spec = tie.close (tie.spec returns is-text-requires returns-2)

@@ -38,7 +38,7 @@ returns-3 c =
       sym (w .from .ensures),
       not-empty (w .from .result .now) (c .before .if2 .left),
     )
-    (c .text .ensures)
+    (c .is-text .ensures)
 
 pub alternative-spec : {M : Type 1} → statement M
 alternative-spec =

@@ -33,12 +33,12 @@ returns c = by-marker _ _ (c .before .before .held .ensures) (sym (c .before .is
 returns-2 : tie.Need-returns-2
 returns-2 c =
     let m = c .before .before in
-    by-text _ _ (m .before .before .held .ensures) (sym (m .before .is-marker .ensures) ∙ m .if1 .left) (sym (c .before .text .ensures) ∙ c .if2 .taken)
+    by-text _ _ (m .before .before .held .ensures) (sym (m .before .is-marker .ensures) ∙ m .if1 .left) (sym (c .before .is-text .ensures) ∙ c .if2 .taken)
 
 returns-3 : tie.Need-returns-3
 returns-3 c =
     let m = c .before .before in
-    by-none _ _ (m .before .before .held .ensures) (sym (m .before .is-marker .ensures) ∙ m .if1 .left) (sym (c .before .text .ensures) ∙ c .if2 .left)
+    by-none _ _ (m .before .before .held .ensures) (sym (m .before .is-marker .ensures) ∙ m .if1 .left) (sym (c .before .is-text .ensures) ∙ c .if2 .left)
 
 pub item-in-spec : {M : Type 1} → statement M
 item-in-spec = tie.close (tie.spec (λ c κs. search needs) (λ c κs. search needs) returns (λ c κs. search needs) returns-2 returns-3)

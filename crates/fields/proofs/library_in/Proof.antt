@@ -57,7 +57,7 @@ returns-2 : tie.Need-returns-2
 returns-2 c =
     let t = c .before in
     sym (in-hand (t .before .before)
-    ∙ simp (le-leb _ _ (t .before .if1 .left), sym (t .text .ensures), not-true (t .text .result) (c .if2 .taken)))
+    ∙ simp (le-leb _ _ (t .before .if1 .left), sym (t .is-text .ensures), not-true (t .is-text .result) (c .if2 .taken)))
 
 returns-3 : tie.Need-returns-3
 returns-3 c =
@@ -66,8 +66,8 @@ returns-3 c =
     sym (in-hand (t .before .before)
     ∙ simp (
       le-leb _ _ (t .before .if1 .left),
-      sym (t .text .ensures),
-      not-false (t .text .result) (o .before .if2 .left),
+      sym (t .is-text .ensures),
+      not-false (t .is-text .result) (o .before .if2 .left),
       sym (o .owner-stands .ensures),
       not-true (o .owner-stands .result) (c .if3 .taken),
     ))
@@ -80,7 +80,7 @@ returns-4 c =
     sym (in-hand l
     ∙ stands
     (le-leb (length (l .behind2 .result .now)) 1 (t .before .if1 .left))
-    (sym (t .text .ensures) ∙ not-false (t .text .result) (o .before .if2 .left))
+    (sym (t .is-text .ensures) ∙ not-false (t .is-text .result) (o .before .if2 .left))
     (sym (o .owner-stands .ensures) ∙ not-false (o .owner-stands .result) (c .before .before .if3 .left))
     (c .before .byte-at .ensures)
     (c .byte-at2 .ensures))

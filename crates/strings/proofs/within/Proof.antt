@@ -1,7 +1,7 @@
 -- Below `low`, or else by `high`.
 use borrow.Author.Tests.{lt-leb, le-leb}
-use Rattle.fields.proofs.within.Statement.{statement}
-use Rattle.fields.proofs.within.Tie as tie
+use Rattle.strings.proofs.within.Statement.{statement}
+use Rattle.strings.proofs.within.Tie as tie
 
 returns : tie.Need-returns
 returns c = simp (lt-leb _ _ (c .if1 .taken))

@@ -11,10 +11,10 @@ use Rattle.format.specs.Bytes.{all, between}
 use Rattle.format.specs.Text.{Range, tail, rows, after}
 use Rattle.format.proofs.Tests.{le-or-lt}
 use Rattle.format.proofs.Text.{between-no, between-facts, leads, leads-none}
-use Rattle.fields.specs.Text.{Stands}
-use Rattle.fields.proofs.Texts.{letter-some, stands-led, stands-none, stands-on, stands-not}
-use Rattle.fields.proofs.letter.Statement.{statement}
-use Rattle.fields.proofs.letter.Tie as tie
+use Rattle.text.specs.Letters.{Stands}
+use Rattle.text.proofs.Letters.{letter-some, stands-led, stands-none, stands-on, stands-not}
+use Rattle.text.proofs.letter.Statement.{statement}
+use Rattle.text.proofs.letter.Tie as tie
 
 -- what is due behind the first byte
 led : (c : tie.After-byte-at2) {due : List Range} → after (c .before .byte-at .result) rows ≡ due

@@ -2,8 +2,8 @@
 use mathlib.Core.Path.{sym}
 use borrow.Author.Needs.{needs}
 use lib.ListN.{List·getD-eq-default}
-use Rattle.fields.proofs.byte_at.Statement.{statement}
-use Rattle.fields.proofs.byte_at.Tie as tie
+use Rattle.strings.proofs.byte_at.Statement.{statement}
+use Rattle.strings.proofs.byte_at.Tie as tie
 
 returns-2 : tie.Need-returns-2
 returns-2 c = sym (List·getD-eq-default (c .before .args .s .now) 0 (c .if1 .left))

@@ -7,9 +7,9 @@ use Rattle.format.specs.Bytes.{all}
 use Rattle.format.specs.Text.{rows}
 use Rattle.format.proofs.Tests.{le-or-lt}
 use Rattle.format.proofs.Text.{between-facts, leads}
-use Rattle.fields.proofs.Texts.{second}
-use Rattle.fields.proofs.second_of_three.Statement.{statement}
-use Rattle.fields.proofs.second_of_three.Tie as tie
+use Rattle.text.proofs.Letters.{second}
+use Rattle.text.proofs.second_of_three.Statement.{statement}
+use Rattle.text.proofs.second_of_three.Tie as tie
 
 returns : tie.Need-returns
 unfolding rows all

@@ -8,10 +8,10 @@ use lib.ListN.{length, getD, drop-of-length-le}
 use Rattle.format.specs.Bytes.{all}
 use Rattle.format.specs.Text.{rows, rowsFrom, text}
 use Rattle.format.proofs.Text.{between-facts, leads}
-use Rattle.fields.specs.Text.{Stands}
-use Rattle.fields.proofs.Texts.{stands-behind, stands-led}
-use Rattle.fields.proofs.text.Statement.{statement}
-use Rattle.fields.proofs.text.Tie as tie
+use Rattle.text.specs.Letters.{Stands}
+use Rattle.text.proofs.Letters.{stands-behind, stands-led}
+use Rattle.text.proofs.is_text.Statement.{statement}
+use Rattle.text.proofs.is_text.Tie as tie
 
 abbrev Inv-loop : tie.InvT-loop
 Inv-loop s i₀ i = Stands s 0 [] i
@@ -59,8 +59,8 @@ returns-2 c =
     let k = c .before in
     sym (k .loop .inv .rest ∙ ap (rowsFrom []) (drop-of-length-le (k .before .before .args .s .now) (c .loop-test .left)))
 
-pub text-spec : {M : Type 1} → statement M
-text-spec =
+pub is-text-spec : {M : Type 1} → statement M
+is-text-spec =
     tie.close
     (tie.spec
     Inv-loop

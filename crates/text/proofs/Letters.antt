@@ -11,7 +11,7 @@ use lib.Seq.{drop-cons}
 use Rattle.format.specs.Text.{Range, inside, rows, nothing, after, rowsFrom}
 use Rattle.format.proofs.Tests.{never, le-or-lt}
 use Rattle.format.proofs.Text.{nothing-follows}
-use Rattle.fields.specs.Text.{Stands, Letter, Second}
+use Rattle.text.specs.Letters.{Stands, Letter, Second}
 
 pub stands-behind : {s : List ℕ} {i j k : ℕ} → Stands s i [] j → Stands s j [] k → Stands s i [] k
 stands-behind p q = record { within = q .within; rest = p .rest ∙ q .rest }
