@@ -39,7 +39,7 @@ pub fn compare(command: &[String], shares: Vec<Cases>) -> Result<Report, String>
     side_by_side(shares, |cases| compare_share(command, cases))
 }
 
-/// Compares shares of any kind, as many at once as there are cores.
+/// Compares shares of any kind, as many at once as there are cores. Where several fail, the first of them tells.
 pub fn side_by_side<S: Send>(
     shares: Vec<S>,
     compared: impl Fn(S) -> Result<Report, String> + Sync,
@@ -47,7 +47,7 @@ pub fn side_by_side<S: Send>(
     let workers = thread::available_parallelism().map_or(1, usize::from).min(shares.len());
     let waiting = Mutex::new(shares.into_iter().enumerate());
     let next = || waiting.lock().expect("nobody fails while holding the shares").next();
-    let work = || -> Result<Vec<(usize, Report)>, String> {
+    let work = || {
         let mut done = Vec::new();
         while let Some((place, share)) = next() {
             let report = compared(share);
@@ -55,18 +55,19 @@ pub fn side_by_side<S: Send>(
                 // Nobody takes another share.
                 while next().is_some() {}
             }
-            done.push((place, report?));
+            done.push((place, report));
         }
-        Ok(done)
+        done
     };
-    let done: Vec<_> = thread::scope(|scope| {
+    let mut done: Vec<_> = thread::scope(|scope| {
         let workers: Vec<_> = (0..workers).map(|_| scope.spawn(work)).collect();
-        workers.into_iter().map(|worker| worker.join().expect("a worker gives reports or a line")).collect()
+        workers.into_iter().flat_map(|worker| worker.join().expect("a worker gives reports or a line")).collect()
     });
-    let mut reports = done.into_iter().collect::<Result<Vec<_>, _>>()?.concat();
-    reports.sort_by_key(|(place, _)| *place);
+    done.sort_by_key(|(place, _)| *place);
     let mut sum = Report::default();
-    reports.into_iter().for_each(|(_, report)| sum.add(report));
+    for (_, report) in done {
+        sum.add(report?);
+    }
     Ok(sum)
 }
 
