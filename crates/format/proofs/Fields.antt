@@ -13,14 +13,14 @@ use Rattle.format.specs.Bytes.{if_then_else_, isEmpty, all, same, padWit
 use Rattle.format.specs.Text.{rowsFrom, text}
 use Rattle.format.specs.Fields.{capital, unitByte, isilOf, isil, hyphen, blank, alternate, alternative, isOwner, marker, marked, goodItem, prefixIn, ownerSaid, goodOwner, long, itemField, packed, basicOwner, ownerField}
 use Rattle.format.proofs.Tests.{never, and-l, and-r, and-i, and-iff, not-t, or-l, or-r, or-inv, if-inv, all-mono, all-append, same-eq}
-use Rattle.format.proofs.Text.{text-floor}
+use Rattle.format.proofs.Text.{between-facts, text-floor}
 use Rattle.format.proofs.Strings.{empty-of, other, without, solid, not-empty, solid-strip, strip-pad, strip-behind, parted}
 
 -- ---- bytes
 
 pub capital-ge : (x : ℕ) → capital x ≡ true → 65 ≤ x
 unfolding capital
-capital-ge x e = leb-true 65 x (and-l (leb 65 x) (leb x 90) e)
+capital-ge x e = between-facts 65 90 x e .0
 
 pub unit-ge : (x : ℕ) → unitByte x ≡ true → 45 ≤ x
 unfolding unitByte capital
@@ -86,7 +86,7 @@ alternative-facts o e =
 
 -- its first byte is 2 or 3, and text follows
 first-alternate : (o : List ℕ) → alternate o ≡ true → (2 ≤ getD o 0 0) × (getD o 0 0 ≤ 3)
-first-alternate o e = (leb-true 2 (getD o 0 0) (and-l (leb 2 (getD o 0 0)) (leb (getD o 0 0) 3) e), leb-true (getD o 0 0) 3 (and-r (leb 2 (getD o 0 0)) (leb (getD o 0 0) 3) e))
+first-alternate o e = between-facts 2 3 (getD o 0 0) e
 
 -- ---- an ISIL
 

@@ -9,14 +9,14 @@ use mathlib.Core.List.{List, _++_}
 use lib.ListN.{length, take, drop}
 use borrow.Author.Tests.{le-leb}
 use Rattle.format.specs.Answers.{Answer, Refusal, plain, placed, got, refused, Step, inOrder, Passed}
-use Rattle.format.specs.Bytes.{all, between, bytes, filled, joined}
+use Rattle.format.specs.Bytes.{all, between, bytes, part, strip, filled, joined}
 use Rattle.format.specs.Pages.{pageSize, goodSize, lockMap, changed, openPages, Kept}
 use Rattle.format.specs.Text.{text, letter, encode, Encoded}
 use Rattle.format.specs.Fields.{alternate, marked}
 use Rattle.format.specs.Elements.{Content, partsOf, ordinalOf, known, el, put, value, sound}
 use Rattle.format.specs.Sheet.{sheetOf, fitting, entriesIn, rightSheet, find, contentOf, goodValues, entries}
 use Rattle.format.specs.Layout.{ownerWidth, laidOut, image, fits}
-use Rattle.format.specs.Reading.{itemIn, ownerIn, walked, blocksIn, libraryOn, contentIn, Readable}
+use Rattle.format.specs.Reading.{walked, blocksIn, libraryOn, contentIn, Readable}
 use Rattle.format.specs.Damage.{Damaged}
 use Rattle.format.specs.Calls.{sheetIn, readSteps, reading, sheetContent, writeSteps, writing, ownLayout, editSteps, Edited, editing}
 use Rattle.format.specs.Before.{textBefore, readStepsBy, readingBy, writeStepsBy, writingBy, editStepsBy, editingBy}
@@ -205,8 +205,9 @@ text-cut s v k e = cut-letters s v k (text-letters s e)
 
 -- Each field is judged by itself, up to its end, to a 00 or to a separator, and has whole letters: in a tag that reads,
 pub fields-whole : (t : List ℕ) → Readable t
-    → ((marked (itemIn t) ≡ true) ⊎ Encoded (itemIn t)) × Encoded (libraryOn t .item)
-    × (alternate (drop 2 (ownerIn t)) ≡ true → Encoded (drop 3 (ownerIn t))) × (alternate (libraryOn t .owner) ≡ true → Encoded (drop 1 (libraryOn t .owner)))
+    → let item = strip (part 3 16 t) in let owner = strip (part 21 13 t) in
+    ((marked item ≡ true) ⊎ Encoded item) × Encoded (libraryOn t .item)
+    × (alternate (drop 2 owner) ≡ true → Encoded (drop 3 owner)) × (alternate (libraryOn t .owner) ≡ true → Encoded (drop 1 (libraryOn t .owner)))
 fields-whole = tag-whole
 
 -- and in the elements that are read or written.
