@@ -4,9 +4,14 @@ use format::EditAnswer;
 use format::NumberAnswer;
 use format::ReadAnswer;
 use format::Refusal;
+use identifier::PartedAnswer;
 ghost use mathlib.Core.Path.{_≡_};
+ghost use mathlib.Core.Bool.{not};
+ghost use lib.Dec.{eqb};
 ghost use Rattle.format.specs.Numbers.{refusalGiven, readGiven, editGiven, refusalOf, refusalNumber, refusalPlace, ReadsC, WritesC, EditsC};
 ghost use Rattle.words.specs.Calls.{decoding, encoding, FillsC};
+ghost use Rattle.identifier.specs.Elements.{three};
+ghost use Rattle.identifier.specs.Calls.{parting, joining, FillsThreeC};
 
 // What a call returns whose work is done.
 const DONE: u32 = 0;
@@ -121,5 +126,53 @@ pub extern "C" fn urp_text_to_words(text: &[u8], words: &mut [u16], used: &mut u
         return format::answer_number(answer);
     };
     *used = count;
+    DONE
+}
+
+// The elements 1, 3 and 4 of a UHF tag's identifier; `leads` is 0 where no ISIL leads. `used1`, `used3` and `used4` become their lengths.
+#[no_mangle]
+pub extern "C" fn urp_take_apart(
+    text: &[u8],
+    leads: u32,
+    item: &mut [u8],
+    isil: &mut [u8],
+    set: &mut [u8],
+    used1: &mut usize,
+    used3: &mut usize,
+    used4: &mut usize,
+) -> u32
+    ensures { λ r. ⌜ FillsThreeC (parting (not (eqb leads 0)) (now (text .entry)) (three (now (item .entry)) (now (isil .entry)) (now (set .entry)))) (three (now (used1 .entry)) (now (used3 .entry)) (now (used4 .entry))) r (three (now (item .exit)) (now (isil .exit)) (now (set .exit))) (three (now (used1 .exit)) (now (used3 .exit)) (now (used4 .exit))) ⌝ }
+{
+    let answer = parting::take_apart(text, leads != 0, item, isil, set);
+    let PartedAnswer::Done {
+        item: item_length,
+        isil: isil_length,
+        set: set_length,
+    } = answer
+    else {
+        return identifier::parted_number(answer);
+    };
+    *used1 = item_length;
+    *used3 = isil_length;
+    *used4 = set_length;
+    DONE
+}
+
+// The identifier of a UHF tag with the elements 1, 3 and 4; no `isil` is none. `used` becomes its length.
+#[no_mangle]
+pub extern "C" fn urp_put_together(
+    item: &[u8],
+    isil: &[u8],
+    set: &[u8],
+    text: &mut [u8],
+    used: &mut usize,
+) -> u32
+    ensures { λ r. ⌜ FillsC (joining (three (now (item .entry)) (now (isil .entry)) (now (set .entry))) (now (text .entry))) (now (used .entry)) r (now (text .exit)) (now (used .exit)) ⌝ }
+{
+    let answer = joining::put_together(item, isil, set, text);
+    let NumberAnswer::Done(length) = answer else {
+        return format::answer_number(answer);
+    };
+    *used = length;
     DONE
 }

@@ -1,0 +1,4 @@
+pub mod Parts
+pub mod SetDigits
+pub mod Elements
+pub mod Calls
