@@ -1,1 +1,4 @@
 pub mod One
+pub mod Splitting
+pub mod Digits
+pub mod Sets

@@ -2,3 +2,5 @@ pub mod Parts
 pub mod SetDigits
 pub mod Elements
 pub mod Calls
+pub mod Meaning
+pub mod Demands
