@@ -2,3 +2,4 @@ pub mod One
 pub mod Splitting
 pub mod Digits
 pub mod Sets
+pub mod Holding

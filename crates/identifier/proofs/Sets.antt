@@ -143,6 +143,9 @@ set-total (set {k} {t} {o} {p} w l s) = let n = bytes-numbers t o in rw (n .0, n
 pub set-numbers : {p e : List ℕ} → SetPart p e → (totalIn p ≡ partsOf e) × (ordinalIn p ≡ ordinalOf e)
 set-numbers (set w l s) = same-read s
 
+pub set-of : {p e : List ℕ} → SetPart p e → setBytes (totalIn p) (ordinalIn p) ≡ e
+set-of (set w l s) = ap₂ setBytes (same-read s .0) (same-read s .1) ∙ same-bytes s .2
+
 pub set-said : {p e : List ℕ} → SetPart p e → saysSet p ≡ true
 unfolding saysSet
 set-said (set {k} {t} {o} {p} w l s) =
