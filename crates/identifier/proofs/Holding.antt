@@ -143,25 +143,25 @@ set-in p g n =
     subst (λ (b : List ℕ). SetPart p b) (sym (set-of sp)) sp
 
 -- an ISIL and a dot, and the rest
-behind-isil : (i s : List ℕ) → (i ++ (dot ∷ [])) ++ s ≡ i ++ (dot ∷ s)
+pub behind-isil : (i s : List ℕ) → (i ++ (dot ∷ [])) ++ s ≡ i ++ (dot ∷ s)
 behind-isil i s = append-assoc i (dot ∷ []) s
 
 module _ (x : List ℕ) (w : dotless x ≡ true) (f : form 1 x ≡ true) where
   its-item : Item x
   its-item = record { formed = f; whole = w }
 
-  holds-alone : Holds false x (three x [] (0 ∷ 0 ∷ 0 ∷ 0 ∷ []))
+  pub holds-alone : Holds false x (three x [] (0 ∷ 0 ∷ 0 ∷ 0 ∷ []))
   holds-alone = let h : Holds false (x ++ []) (three x [] (0 ∷ 0 ∷ 0 ∷ 0 ∷ [])) = holds item its-item none in subst (λ (s : List ℕ). Holds false s (three x [] (0 ∷ 0 ∷ 0 ∷ 0 ∷ []))) (append-nil x) h
 
-  holds-set : (p e : List ℕ) → SetPart p e → Holds false (x ++ (dot ∷ p)) (three x [] e)
+  pub holds-set : (p e : List ℕ) → SetPart p e → Holds false (x ++ (dot ∷ p)) (three x [] e)
   holds-set p e sp = holds item its-item (set sp)
 
-  holds-isil : (i : List ℕ) → form 3 i ≡ true → Holds true (i ++ (dot ∷ x)) (three x i (0 ∷ 0 ∷ 0 ∷ 0 ∷ []))
+  pub holds-isil : (i : List ℕ) → form 3 i ≡ true → Holds true (i ++ (dot ∷ x)) (three x i (0 ∷ 0 ∷ 0 ∷ 0 ∷ []))
   holds-isil i g =
       let h : Holds true ((i ++ (dot ∷ [])) ++ (x ++ [])) (three x i (0 ∷ 0 ∷ 0 ∷ 0 ∷ [])) = holds (led g) its-item none in
       subst (λ (s : List ℕ). Holds true s (three x i (0 ∷ 0 ∷ 0 ∷ 0 ∷ []))) (behind-isil i (x ++ []) ∙ ap (λ (r : List ℕ). i ++ (dot ∷ r)) (append-nil x)) h
 
-  holds-both : (i : List ℕ) → form 3 i ≡ true → (p e : List ℕ) → SetPart p e → Holds true (i ++ (dot ∷ (x ++ (dot ∷ p)))) (three x i e)
+  pub holds-both : (i : List ℕ) → form 3 i ≡ true → (p e : List ℕ) → SetPart p e → Holds true (i ++ (dot ∷ (x ++ (dot ∷ p)))) (three x i e)
   holds-both i g p e sp =
       let h : Holds true ((i ++ (dot ∷ [])) ++ (x ++ (dot ∷ p))) (three x i e) = holds (led g) its-item (set sp) in
       subst (λ (s : List ℕ). Holds true s (three x i e)) (behind-isil i (x ++ (dot ∷ p))) h

@@ -3,3 +3,4 @@ pub mod Splitting
 pub mod Digits
 pub mod Sets
 pub mod Holding
+pub mod Making
