@@ -4,3 +4,5 @@ pub mod Digits
 pub mod Sets
 pub mod Holding
 pub mod Making
+pub mod Outcomes
+pub mod Promises
