@@ -6,3 +6,4 @@ pub mod Holding
 pub mod Making
 pub mod Outcomes
 pub mod Promises
+pub mod Through

@@ -11,7 +11,7 @@ use Rattle.format.specs.Answers.{Refusal, plain, got, refused}
 use Rattle.format.specs.Bytes.{isEmpty}
 use Rattle.format.specs.Elements.{value, form}
 use Rattle.words.specs.Calls.{Outcome}
-use Rattle.words.specs.Demands.{Done}
+use Rattle.words.specs.Demands.{Converter, Done}
 use Rattle.identifier.specs.Elements.{three, Elements}
 use Rattle.identifier.specs.Calls.{lengths, Lengths, Parted, filledAll}
 use Rattle.identifier.specs.Meaning.{Parts, Permitted, Item, Holds, Points}
@@ -99,3 +99,25 @@ abbrev pub PutsBack : Parter → Joiner → Type 0
 PutsBack part join =
     (leads : Bool) (s : List ℕ) (buffers : Elements) (n : Lengths) → part leads s buffers .answer ≡ got n → (buffer : List ℕ) → length s ≤ length buffer
     → Done (join (fronts n (part leads s buffers .buffers)) buffer) s buffer
+
+-- ---- with the words of E2: document 02, "From E2's characters the desk needs elements 1, 3 and 4, and the way back"
+
+-- elements put together, encoded, decoded and taken apart are the same elements
+abbrev pub ElementsThroughWords : Parter → Joiner → Converter → Converter → Type 0
+ElementsThroughWords part join decode encode =
+    (e : Elements) (text words : List ℕ) (n m : ℕ)
+    → join e text .answer ≡ got n
+    → let s : List ℕ = take n (join e text .buffer) in encode s words .answer ≡ got m
+    → (again : List ℕ) (buffers : Elements) → n ≤ length again → Room e buffers
+    → let t : Outcome = decode (take m (encode s words .buffer)) again in (t .answer ≡ got n) × DoneThree (part (not (isEmpty (e .isil))) (take n (t .buffer)) buffers) e buffers
+
+-- words decoded, taken apart and put together are the same text; that text is encoded wherever there is a word of room for each character, and
+-- the words decode to it
+abbrev pub WordsThroughElements : Parter → Joiner → Converter → Converter → Type 0
+WordsThroughElements part join decode encode =
+    (leads : Bool) (ws text : List ℕ) (buffers : Elements) (n : ℕ) (m : Lengths)
+    → decode ws text .answer ≡ got n
+    → let s : List ℕ = take n (decode ws text .buffer) in part leads s buffers .answer ≡ got m
+    → (again words : List ℕ) → n ≤ length again → n ≤ length words
+    → Done (join (fronts m (part leads s buffers .buffers)) again) s again
+    × ((k : ℕ) × (encode s words .answer ≡ got k) × Done (decode (take k (encode s words .buffer)) again) s again)

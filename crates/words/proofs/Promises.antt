@@ -156,7 +156,7 @@ encode-room s ws l = laid-few l
 
 -- ==== for a C host: 0 is returned only where the work is done, and then the result is the output's length
 
-filled-zero : (gs : List Gives) (steps : List Step) (out buffer : List ℕ) (used r : ℕ) (after : List ℕ) (used′ : ℕ)
+pub filled-zero : (gs : List Gives) (steps : List Step) (out buffer : List ℕ) (used r : ℕ) (after : List ℕ) (used′ : ℕ)
     → Each gs steps → oneGives gs (plain 0) ≡ false → FillsC (filling steps out buffer) used r after used′ → r ≡ 0 → (used′ ≡ length out) × (after ≡ filled out buffer)
 unfolding filling
 filled-zero gs steps out buffer used r after used′ order z c e =

@@ -9,7 +9,7 @@ use mathlib.Core.Bool.{Bool, true, false, _&&_, _||_}
 use lib.Dec.{leb, ltb, eqb}
 use borrow.Author.Tests.{eqb-true, eqb-false, ne-eqb, leb-true, leb-false, ltb-true}
 use Rattle.format.proofs.Tests.{never, and-l, and-r, or-inv}
-use Rattle.words.specs.Code40.{valueOf, characterOf, outside}
+use Rattle.words.specs.Code40.{valueOf, characterOf, outside, is646}
 use Rattle.words.proofs.Cases.{decide, over}
 
 -- every number below n passes the test f
@@ -54,6 +54,9 @@ high-value : (c : ℕ) → 0x7F < c → valueOf c ≡ 0
 unfolding valueOf
 high-value c h =
     rw (over 0x41 0x5A c (omega arith), ne-eqb c 0x2D (λ e. omega arith), ne-eqb c 0x2E (λ e. omega arith), ne-eqb c 0x3A (λ e. omega arith), over 0x30 0x39 c (omega arith))
+
+pub one-of-39-low : (c : ℕ) → outside c ≡ false → is646 c ≡ true
+one-of-39-low c o = decide (is646 c) (λ e. e) (λ e. absurd (eqb-false (valueOf c) 0 o (high-value c (leb-false c 0x7F e))))
 
 -- a test of every character, computed up to 7F
 by-range : (P : ℕ → Type 0) → ((c : ℕ) → c < 0x80 → P c) → ((c : ℕ) → 0x7F < c → P c) → (c : ℕ) → P c
