@@ -31,7 +31,7 @@ dot-neither : (capital dot ≡ false) × (unitByte dot ≡ false)
 unfolding capital unitByte
 dot-neither = (refl, refl)
 
-form-isil : (i : List ℕ) → form 3 i ≡ true → isil i ≡ true
+pub form-isil : (i : List ℕ) → form 3 i ≡ true → isil i ≡ true
 unfolding form shape
 form-isil i f = and-l (isil i) (leb (length i) 255) f
 
@@ -84,10 +84,10 @@ pub record Found (leads : Bool) (ps : List (List ℕ)) (e : Elements) : Type 0 w
 parts-x : (x : List ℕ) → Item x → parts (x ++ []) ≡ x ∷ []
 parts-x x it = ap parts (append-nil x) ∙ parts-last x (it .whole)
 
-parts-x-p : (x p : List ℕ) → Item x → dotless p ≡ true → parts (x ++ (dot ∷ p)) ≡ x ∷ p ∷ []
+pub parts-x-p : (x p : List ℕ) → Item x → dotless p ≡ true → parts (x ++ (dot ∷ p)) ≡ x ∷ p ∷ []
 parts-x-p x p it w = parts-more x p (it .whole) ∙ ap (_∷_ x) (parts-last p w)
 
-parts-i : (i s : List ℕ) → form 3 i ≡ true → parts ((i ++ (dot ∷ [])) ++ s) ≡ i ∷ parts s
+pub parts-i : (i s : List ℕ) → form 3 i ≡ true → parts ((i ++ (dot ∷ [])) ++ s) ≡ i ∷ parts s
 parts-i i s f = ap parts (append-assoc i (dot ∷ []) s) ∙ parts-more i s (isil-dotless i f)
 
 found-x : (x : List ℕ) → Item x → Found false (x ∷ []) (three x [] (0 ∷ 0 ∷ 0 ∷ 0 ∷ []))

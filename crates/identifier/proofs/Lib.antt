@@ -6,4 +6,6 @@ pub mod Holding
 pub mod Making
 pub mod Outcomes
 pub mod Promises
+pub mod Numbers
+pub mod Room
 pub mod Through

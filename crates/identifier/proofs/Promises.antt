@@ -8,7 +8,7 @@ use mathlib.Core.Bool.{Bool, true, false, not}
 use mathlib.Core.List.{List, [], _∷_, _++_}
 use lib.ListN.{length, take, drop}
 use lib.Seq.{take-append-seam}
-use Rattle.format.specs.Answers.{Answer, Refusal, plain, got, refused}
+use Rattle.format.specs.Answers.{Answer, Refusal, plain, got, refused, orElse}
 use Rattle.format.specs.Bytes.{all, isEmpty, filled}
 use Rattle.format.specs.Elements.{partsOf, ordinalOf, setBytes, form}
 use Rattle.format.specs.Numbers.{Gives, gives, oneGives, Each, none, resultOf}
@@ -21,6 +21,7 @@ use Rattle.words.specs.Calls.{Outcome, filling, FillsC}
 use Rattle.words.specs.Demands.{Done}
 use Rattle.words.proofs.Cases.{decide}
 use Rattle.words.proofs.Outcomes.{answer-bad, answer-short, answer-good, good-got, bad-refused, short-refused}
+use Rattle.words.proofs.Promises.{filled-zero}
 use Rattle.identifier.specs.declared.PartedAnswer.{PartedAnswer}
 use Rattle.identifier.specs.declared.PartedAnswer.the-variants as parted
 use Rattle.identifier.specs.Parts.{parts}
@@ -178,7 +179,7 @@ module _ (leads : Bool) (s : List ℕ) (buffers : Elements) where
     | done r g n m e ↦ undone e h
   ]
 
-  done-given : (n : Lengths) → parting leads s buffers .answer ≡ got n → Holds leads s its × Room its buffers × DoneThree (parting leads s buffers) its buffers
+  pub done-given : (n : Lengths) → parting leads s buffers .answer ≡ got n → Holds leads s its × Room its buffers × DoneThree (parting leads s buffers) its buffers
   unfolding parting
   done-given k h = elim (verdict leads s buffers) [
     | count r e ↦ undone h e
@@ -241,26 +242,53 @@ joins-elements =
       );
     }
 
+-- where the work was done, the buffers' fronts are the elements; and the buffer's front the identifier
+fronts-all : (e buffers : Elements) → fronts (lengths e) (filledAll e buffers) ≡ e
+fronts-all e buffers =
+    rw (
+      take-append-seam (e .item) (drop (length (e .item)) (buffers .item)),
+      take-append-seam (e .isil) (drop (length (e .isil)) (buffers .isil)),
+      take-append-seam (e .set) (drop (length (e .set)) (buffers .set)),
+    ) refl
+
+pub fronts-given : (leads : Bool) (s : List ℕ) (buffers : Elements) (n : Lengths) → parting leads s buffers .answer ≡ got n → fronts n (parting leads s buffers .buffers) ≡ elementsOf leads (parts s)
+fronts-given leads s buffers n h =
+    let e : Elements = elementsOf leads (parts s) in
+    let g = done-given leads s buffers n h in
+    ap₂ fronts (got-inj (sym h ∙ g .2 .0)) (g .2 .1) ∙ fronts-all e buffers
+
+pub made-given : (e : Elements) (buffer : List ℕ) (n : ℕ) → joining e buffer .answer ≡ got n → (take n (joining e buffer .buffer) ≡ identifierOf e) × Made (identifierOf e) e
+unfolding filling joinSteps
+made-given e buffer n h =
+    let s : List ℕ = identifierOf e in
+    let long : n ≡ length s = sym (worked _ (length s) n h .1) in
+    (ap₂ take long (afterwards-got _ n (filled s buffer) buffer h) ∙ take-append-seam s (drop (length s) buffer), sound-made e (good-sound e (good-got 9 (goodElements e) (length buffer) s h)))
+
 -- what is put together takes apart to the same three elements
 pub taken-back : TakesBack parting joining
-unfolding filling joinSteps
 taken-back e buffer n h buffers room =
-    let s : List ℕ = identifierOf e in
-    let k = sound-made e (good-sound e (good-got 9 (goodElements e) (length buffer) s h)) in
-    let long : n ≡ length s = sym (worked _ (length s) n h .1) in
-    let front : take n (joining e buffer .buffer) ≡ s = ap₂ take long (afterwards-got _ n (filled s buffer) buffer h) ∙ take-append-seam s (drop (length s) buffer) in
-    subst (λ (t : List ℕ). DoneThree (parting (not (isEmpty (e .isil))) t buffers) e buffers) (sym front) (parts-identifiers .done (not (isEmpty (e .isil))) s e buffers k room)
+    let leads : Bool = not (isEmpty (e .isil)) in
+    let m = made-given e buffer n h in
+    subst (λ (t : List ℕ). DoneThree (parting leads t buffers) e buffers) (sym (m .0)) (parts-identifiers .done leads (identifierOf e) e buffers (m .1) room)
 
 -- what was taken apart puts together to the same characters
 pub put-back : PutsBack parting joining
 put-back leads s buffers n h buffer room =
     let e : Elements = elementsOf leads (parts s) in
-    let g = done-given leads s buffers n h in
-    let long : n ≡ lengths e = got-inj (sym h ∙ g .2 .0) in
-    let front : fronts n (parting leads s buffers .buffers) ≡ e = ap₂ fronts long (g .2 .1) ∙ front-all e buffers in
-    let made : Made s e = subst (λ (l : Bool). Holds l s e) (sym (holds-leads (g .0))) (g .0) in
-    subst (λ (x : Elements). Done (joining x buffer) s buffer) (sym front) (joins-elements .done e s buffer made room)
-  where
-    front-all : (e buffers : Elements) → fronts (lengths e) (filledAll e buffers) ≡ e
-    front-all e buffers =
-        rw (take-append-seam (e .item) (drop (length (e .item)) (buffers .item)), take-append-seam (e .isil) (drop (length (e .isil)) (buffers .isil)), take-append-seam (e .set) (drop (length (e .set)) (buffers .set))) refl
+    let holds = done-given leads s buffers n h .0 in
+    let made : Made s e = subst (λ (l : Bool). Holds l s e) (sym (holds-leads holds)) holds in
+    subst (λ (x : Elements). Done (joining x buffer) s buffer) (sym (fronts-given leads s buffers n h)) (joins-elements .done e s buffer made room)
+
+-- ==== for a C host: 0 is returned only where the work is done, and then the results are the lengths
+
+pub c-parts : (leads : Bool) (s : List ℕ) (buffers : Elements) (used : Lengths) (r : ℕ) (after : Elements) (used′ : Lengths) → FillsThreeC (parting leads s buffers) used r after used′ → r ≡ 0
+    → (used′ ≡ lengths (elementsOf leads (parts s))) × (after ≡ filledAll (elementsOf leads (parts s)) buffers)
+unfolding parting partGives oneGives gives orElse
+c-parts leads s buffers used r after used′ c e =
+    let d = zero-done partGives (partSteps leads (lengths buffers) (parts s)) (lengths (elementsOf leads (parts s))) (parting-order leads (lengths buffers) (parts s)) refl (sym (c .answered) ∙ e) in
+    (c .result ∙ ap (λ (a : Answer Lengths). orElse a used) d, c .left ∙ afterwards-got _ _ _ buffers d)
+
+pub c-joins : (e : Elements) (buffer : List ℕ) (used r : ℕ) (after : List ℕ) (used′ : ℕ) → FillsC (joining e buffer) used r after used′ → r ≡ 0
+    → (used′ ≡ length (identifierOf e)) × (after ≡ filled (identifierOf e) buffer)
+unfolding joinGives oneGives gives
+c-joins e buffer used r after used′ = filled-zero joinGives (joinSteps (length buffer) e) (identifierOf e) buffer used r after used′ (joining-order (length buffer) e) refl

@@ -100,11 +100,16 @@ pub same-digits : {k : ℕ} {p e : List ℕ} → SameNumbers k p e → all digit
 same-digits (same-numbers {k} {t} {o} {a} {b} d f h l) = all-append digit a b (digits-all d) (digits-all f)
 
 -- what is read of the digits are the bytes
+pub halves-read : {k t o : ℕ} {a b : List ℕ} → Digits k t a → Digits k o b → (totalIn (a ++ b) ≡ t) × (ordinalIn (a ++ b) ≡ o)
+halves-read {k} {t} {o} {a} {b} d f =
+    let half : length (a ++ b) / 2 ≡ length a = omega (arith, length-append a b, digits-count d, digits-count f) in
+    rw (half, take-append-seam a b, drop-append-seam a b) (digits-number d, digits-number f)
+
 pub same-read : {k : ℕ} {p e : List ℕ} → SameNumbers k p e → (totalIn p ≡ partsOf e) × (ordinalIn p ≡ ordinalOf e)
 same-read (same-numbers {k} {t} {o} {a} {b} d f h l) =
-    let half : length (a ++ b) / 2 ≡ length a = omega (arith, length-append a b, digits-count d, digits-count f) in
+    let r = halves-read d f in
     let n = bytes-numbers t o in
-    rw (half, take-append-seam a b, drop-append-seam a b) (digits-number d ∙ sym (n .0), digits-number f ∙ sym (n .1))
+    (r .0 ∙ sym (n .0), r .1 ∙ sym (n .1))
 
 -- what is written of the bytes are the digits
 pub same-written : {k : ℕ} {p e : List ℕ} → SameNumbers k p e → digits k (partsOf e) ++ digits k (ordinalOf e) ≡ p
@@ -193,11 +198,15 @@ written-set e f l =
 digit-other : (c : ℕ) → digit c ≡ true → not (eqb c dot) ≡ true
 digit-other c h = let l = leb-true 0x30 c (and-l (leb 0x30 c) (leb c 0x39) h) in rw (ne-eqb c dot (omega arith)) refl
 
+pub digits-whole : (p : List ℕ) → all digit p ≡ true → dotless p ≡ true
+digits-whole p e = all-mono digit (λ c. not (eqb c dot)) digit-other p e
+
+pub digits-not-s : (p : List ℕ) → all digit p ≡ true → same p (0x53 ∷ []) ≡ false
+unfolding all
+digits-not-s p e = decide (same p (0x53 ∷ [])) (λ h. never (cc (ap (all digit) (same-eq p (0x53 ∷ []) h), e))) (λ h. h)
+
 pub set-whole : {p e : List ℕ} → SetPart p e → dotless p ≡ true
-set-whole (set {k} {t} {o} {p} w l s) = all-mono digit (λ c. not (eqb c dot)) digit-other p (same-digits s)
+set-whole (set {k} {t} {o} {p} w l s) = digits-whole p (same-digits s)
 
 pub set-not-s : {p e : List ℕ} → SetPart p e → same p (0x53 ∷ []) ≡ false
-set-not-s (set {k} {t} {o} {p} w l s) =
-    decide (same p (0x53 ∷ []))
-    (λ h. absurd (omega (arith, ap length (same-eq p (0x53 ∷ []) h), same-length s)))
-    (λ h. h)
+set-not-s (set {k} {t} {o} {p} w l s) = digits-not-s p (same-digits s)

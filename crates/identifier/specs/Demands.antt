@@ -9,12 +9,12 @@ use mathlib.Core.List.{List}
 use lib.ListN.{length, take}
 use Rattle.format.specs.Answers.{Refusal, plain, got, refused}
 use Rattle.format.specs.Bytes.{isEmpty}
-use Rattle.format.specs.Elements.{value, form}
+use Rattle.format.specs.Elements.{partsOf, ordinalOf, value, form}
 use Rattle.words.specs.Calls.{Outcome}
 use Rattle.words.specs.Demands.{Converter, Done}
 use Rattle.identifier.specs.Elements.{three, Elements}
 use Rattle.identifier.specs.Calls.{lengths, Lengths, Parted, filledAll}
-use Rattle.identifier.specs.Meaning.{Parts, Permitted, Item, Holds, Points}
+use Rattle.identifier.specs.Meaning.{Parts, Permitted, Item, Holds, Points, Tells}
 
 -- ---- taking apart
 
@@ -99,6 +99,15 @@ abbrev pub PutsBack : Parter → Joiner → Type 0
 PutsBack part join =
     (leads : Bool) (s : List ℕ) (buffers : Elements) (n : Lengths) → part leads s buffers .answer ≡ got n → (buffer : List ℕ) → length s ≤ length buffer
     → Done (join (fronts n (part leads s buffers .buffers)) buffer) s buffer
+
+-- a number stays what it is, or is refused: 260 is never 4
+pub record KeepsNumbers (part : Parter) (join : Joiner) : Type 0 where
+  pub taken : (leads : Bool) (s : List ℕ) (t o : ℕ) (buffers : Elements) (n : Lengths) → Tells leads s t o → part leads s buffers .answer ≡ got n
+      → let set : List ℕ = fronts n (part leads s buffers .buffers) .set in (partsOf set ≡ t) × (ordinalOf set ≡ o)
+  pub not-taken : (leads : Bool) (s : List ℕ) (t o : ℕ) (buffers : Elements) → Tells leads s t o → 255 < t → part leads s buffers .answer ≡ refused (plain 6)
+  pub put : (e : Elements) (buffer : List ℕ) (n : ℕ) → join e buffer .answer ≡ got n → 0 < partsOf (e .set)
+      → Tells (not (isEmpty (e .isil))) (take n (join e buffer .buffer)) (partsOf (e .set)) (ordinalOf (e .set))
+  pub not-put : (e : Elements) (buffer : List ℕ) → 255 < partsOf (e .set) → join e buffer .answer ≡ refused (plain 9)
 
 -- ---- with the words of E2: document 02, "From E2's characters the desk needs elements 1, 3 and 4, and the way back"
 

@@ -68,3 +68,7 @@ pub data Holds : Bool → List ℕ → Elements → Type 0 where
 -- one with a final S in the set's place, which points to another bank
 pub data Points : Bool → List ℕ → Type 0 where
   points : {leads : Bool} {i front x : List ℕ} → Begins leads i front → Item x → Points leads (front ++ (x ++ (dot ∷ 0x53 ∷ [])))
+
+-- one that says a total t and an ordinal o in the set's place, as many digits for each, good set information or not
+pub data Tells : Bool → List ℕ → ℕ → ℕ → Type 0 where
+  tells : {leads : Bool} {k t o : ℕ} {i front x a b : List ℕ} → Begins leads i front → Item x → Digits k t a → Digits k o b → Tells leads (front ++ (x ++ (dot ∷ (a ++ b)))) t o
