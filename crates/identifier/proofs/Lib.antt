@@ -9,3 +9,4 @@ pub mod Promises
 pub mod Numbers
 pub mod Room
 pub mod Through
+pub mod Pairs

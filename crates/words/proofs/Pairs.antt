@@ -8,7 +8,7 @@ use Rattle.words.specs.Code40.{valueOf, characterOf, charactersAt, unpad
 use Rattle.words.specs.Calls.{Outcome, filling, decodeSteps, decoding, encodeSteps, encoding}
 
 -- CH-000134-1.12345678.31
-pub swiss : List ℕ
+unfoldable pub swiss : List ℕ
 swiss = 0x43 ∷ 0x48 ∷ 0x2D ∷ 0x30 ∷ 0x30 ∷ 0x30 ∷ 0x31 ∷ 0x33 ∷ 0x34 ∷ 0x2D ∷ 0x31 ∷ 0x2E ∷ 0x31 ∷ 0x32 ∷ 0x33 ∷ 0x34 ∷ 0x35 ∷ 0x36 ∷ 0x37 ∷ 0x38 ∷ 0x2E ∷ 0x33 ∷ 0x31 ∷ []
 
 pub swissWords : List ℕ
