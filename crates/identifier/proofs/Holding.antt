@@ -42,8 +42,8 @@ isil-dotless i f =
     let g = isil-facts (upTo hyphen i) (past hyphen i) e in
     ap dotless (isil-whole i e)
     ∙ all-append (λ c. not (eqb c dot)) (upTo hyphen i) (hyphen ∷ past hyphen i)
-      (all-mono capital (λ c. not (eqb c dot)) (other-than capital (dot-neither .0)) (upTo hyphen i) (g .capitals))
-      (all-mono unitByte (λ c. not (eqb c dot)) (other-than unitByte (dot-neither .1)) (past hyphen i) (g .units))
+    (all-mono capital (λ c. not (eqb c dot)) (other-than capital (dot-neither .0)) (upTo hyphen i) (g .capitals))
+    (all-mono unitByte (λ c. not (eqb c dot)) (other-than unitByte (dot-neither .1)) (past hyphen i) (g .units))
 
 pub isil-some : (i : List ℕ) → form 3 i ≡ true → isEmpty i ≡ false
 isil-some i f = isil-first i (form-isil i f) .1

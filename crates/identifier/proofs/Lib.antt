@@ -10,3 +10,4 @@ pub mod Numbers
 pub mod Room
 pub mod Through
 pub mod Pairs
+pub mod Wrong

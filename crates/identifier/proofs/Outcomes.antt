@@ -109,7 +109,7 @@ module _ (leads : Bool) (s : List ℕ) (buffers : Elements) where
       (λ g. bad r g (bad-no r g)))
       (λ r. count r (count-no r))
 
--- ---- the contract, once the answer is known
+  -- ---- the contract, once the answer is known
 
   pub three-refused : {k : ℕ} → answer ≡ refused (plain k) → FillsThree (parting leads s buffers) (Refused k) buffers
   unfolding parting

@@ -191,7 +191,7 @@ written-set e f l =
     let w : Width t (width t) = is-width t l (four .parts) in
     let below : t < tens (width t) = width-below w in
     let made : SetPart (setPart t o) (t ∷ 0 ∷ o ∷ 0 ∷ []) =
-        set w (four .ordinal) (written-same (width t) t o (four .parts) (omega (arith, four .parts, four .ordinal)) below (omega (arith, below, four .ordinal))) in
+    set w (four .ordinal) (written-same (width t) t o (four .parts) (omega (arith, four .parts, four .ordinal)) below (omega (arith, below, four .ordinal))) in
     subst (λ (b : List ℕ). SetPart (setPart t o) b) (sym (four .whole)) made
 
 -- it holds no dot, and is not S

@@ -117,9 +117,11 @@ in-range isil-item-set = refl
 pub right-counted : (leads : Bool) (s : List ℕ) → rightCount leads (parts s) ≡ true → Counted leads s
 unfolding rightCount
 right-counted leads s e =
-    let n : ℕ = length (parts s) in
-    (n, count-parts s,
-    permitted leads n (leb-true (before leads + 1) n (and-l (leb (before leads + 1) n) (leb n (before leads + 2)) e)) (leb-true n (before leads + 2) (and-r (leb (before leads + 1) n) (leb n (before leads + 2)) e)))
+    let n : ℕ = length (parts s) in (
+      n,
+      count-parts s,
+      permitted leads n (leb-true (before leads + 1) n (and-l (leb (before leads + 1) n) (leb n (before leads + 2)) e)) (leb-true n (before leads + 2) (and-r (leb (before leads + 1) n) (leb n (before leads + 2)) e)),
+    )
 
 pub counted-right : (leads : Bool) (s : List ℕ) → Counted leads s → rightCount leads (parts s) ≡ true
 unfolding rightCount
