@@ -1,0 +1,3 @@
+mod Pieces
+mod Digits
+mod Good
