@@ -1,17 +1,17 @@
 -- Good elements: what the tests of code say of them, and what their identifier is.
 use mathlib.Core.Path.{_≡_, refl, sym, ap, ap₂, _∙_}
-use Prim.Native.Nat.{ℕ, zero, suc, _+_, _≤_, _<_}
+use Prim.Native.Nat.{ℕ, suc, _+_, _≤_, _<_}
 use native.Mathlib.Nat.{le-of-suc-le-suc, not-suc-le-zero}
 use native.Mathlib.Omega.{arith}
 use mathlib.Core.Bool.{Bool, true, false, not, _&&_}
-use mathlib.Core.List.{List, [], _∷_, _++_}
+use mathlib.Core.List.{List, [], _∷_, _++_, append-assoc}
 use lib.ListN.{length, getD, length-append}
-use lib.Dec.{eqb, leb}
+use lib.Dec.{eqb}
 use borrow.Author.Tests.{eqb-true, leb-true}
 use Rattle.format.specs.Bytes.{if_then_else_, all, upTo, word}
 use Rattle.format.specs.Elements.{partsOf, ordinalOf, setInfo, shape, form, value}
 use Rattle.format.proofs.Strings.{not-empty, is-empty}
-use Rattle.format.proofs.Tests.{and-l, and-r, and-i, and-left, and-no, and-iff}
+use Rattle.format.proofs.Tests.{and-i, and-left, and-no, and-iff}
 use Rattle.format.proofs.Values.{value-short}
 use Rattle.identifier.specs.Parts.{dot, dotless}
 use Rattle.identifier.specs.Elements.{three, goodElements, identifierOf}
@@ -38,6 +38,16 @@ dot-nowhere (c ∷ s) h = go (eqb c dot) h (dot-nowhere s)
     go true k ih = absurd (not-suc-le-zero k)
     go false k ih = ih (le-of-suc-le-suc k)
 
+-- ---- an ISIL, or none
+
+pub some-value : (i : List ℕ) → 0 < length i → form 3 i ≡ true → value 3 i ≡ true
+unfolding value
+some-value i h e = rw (not-empty i (λ z. omega arith)) e
+
+pub none-value : (i : List ℕ) → length i ≤ 0 → value 3 i ≡ true
+unfolding value
+none-value i h = rw (is-empty i (omega arith))
+
 -- ---- the tests one by one
 
 module _ (x i s : List ℕ) where
@@ -57,15 +67,6 @@ module _ (x i s : List ℕ) where
   unfolding goodElements
   bad-set e = and-no (form 1 x && dotless x && value 3 i) _ e
 
-  -- an ISIL or none
-  pub some-value : 0 < length i → form 3 i ≡ true → value 3 i ≡ true
-  unfolding value
-  some-value h e = rw (not-empty i (λ z. omega arith)) e
-
-  pub none-value : length i ≤ 0 → value 3 i ≡ true
-  unfolding value
-  none-value h = rw (is-empty i (omega arith))
-
   pub all-good : form 1 x ≡ true → length x ≤ length (upTo dot x) → value 3 i ≡ true → form 4 s ≡ true → goodElements (three x i s) ≡ true
   unfolding goodElements
   all-good a b c d = and-i (and-i (and-i a (dot-nowhere x b)) c) d
@@ -84,19 +85,24 @@ pub good-facts : (x i s : List ℕ) → goodElements (three x i s) ≡ true → 
 unfolding goodElements form shape setInfo word
 good-facts x i s e =
     let h = simp and-iff at e in
+    let p = leb-true (partsOf s) 255 (h .1 .0 .0 .0 .1) in
+    let o = leb-true (ordinalOf s) 255 (h .1 .0 .0 .1) in
     record {
       item = leb-true (length x) 255 (h .0 .0 .0 .1);
       isil = value-short 3 i (h .0 .1);
-      set = ?;
-      parts = ?;
-      ordinal = ?;
+      set = eqb-true (length s) 4 (h .1 .0 .0 .0 .0);
+      parts = omega arith;
+      ordinal = omega arith;
     }
 
 module _ (x i s : List ℕ) (f : Facts x i s) where
-  pub good-pieces : identifierOf (three x i s) ≡ isilFront i ++ (x ++ setEnd (getD s 0 0) (getD s 2 0))
-  good-pieces = identifier-pieces x i s ∙ ap₂ (λ (p o : ℕ). isilFront i ++ (x ++ setEnd p o)) (f .parts) (f .ordinal)
+  pub good-pieces : identifierOf (three x i s) ≡ (isilFront i ++ x) ++ setEnd (getD s 0 0) (getD s 2 0)
+  good-pieces =
+      identifier-pieces x i s
+      ∙ ap₂ (λ (p o : ℕ). isilFront i ++ (x ++ setEnd p o)) (f .parts) (f .ordinal)
+      ∙ sym (append-assoc (isilFront i) x (setEnd (getD s 0 0) (getD s 2 0)))
 
   pub good-length : length (identifierOf (three x i s)) ≡ length (isilFront i) + length x + length (setEnd (getD s 0 0) 0)
   good-length =
       let e : List ℕ = setEnd (getD s 0 0) (getD s 2 0) in
-      ap length good-pieces ∙ length-append (isilFront i) (x ++ e) ∙ omega (arith, length-append x e, any-ordinal (getD s 0 0) (getD s 2 0))
+      ap length good-pieces ∙ length-append (isilFront i ++ x) e ∙ omega (arith, length-append (isilFront i) x, any-ordinal (getD s 0 0) (getD s 2 0))

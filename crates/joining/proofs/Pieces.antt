@@ -41,6 +41,10 @@ some-isil i e = rw (not-empty i e)
 pub isil-front-length : (i : List ℕ) → (length i ≡ 0 → ⊥) → length (isilFront i) ≡ length i + 1
 isil-front-length i e = ap length (some-isil i e) ∙ length-append i (dot ∷ [])
 
+pub isil-front-short : (i : List ℕ) → length (isilFront i) ≤ length i + 1
+isil-front-short [] = omega arith
+isil-front-short (y ∷ i) = omega (arith, length-append (y ∷ i) (dot ∷ []))
+
 -- ---- the dot and the set information
 
 pub digits-length : (k n : ℕ) → length (digits k n) ≡ k
@@ -60,30 +64,28 @@ width-three n = go (leb n 9) (leb n 99)
 pub no-set : (total ordinal : ℕ) → total ≡ 0 → setEnd total ordinal ≡ []
 no-set total ordinal e = rw (eq-eqb total 0 e)
 
-pub some-set : (total ordinal : ℕ) → (total ≡ 0 → ⊥) → setEnd total ordinal ≡ (dot ∷ digits (width total) total) ++ digits (width total) ordinal
-unfolding setPart
-some-set total ordinal e = rw (ne-eqb total 0 e)
+-- w is the total's width
+module _ (total ordinal w : ℕ) (is : w ≡ width total) (some : total ≡ 0 → ⊥) where
+  pub some-set : setEnd total ordinal ≡ ((dot ∷ []) ++ digits w total) ++ digits w ordinal
+  unfolding setPart
+  some-set = rw (ne-eqb total 0 some, is)
 
-pub set-end-length : (total ordinal : ℕ) → (total ≡ 0 → ⊥) → length (setEnd total ordinal) ≡ 1 + 2 * width total
-set-end-length total ordinal e =
-    let w : ℕ = width total in
-    ap length (some-set total ordinal e)
-    ∙ length-append (dot ∷ digits w total) (digits w ordinal)
-    ∙ omega (arith, digits-length w total, digits-length w ordinal)
+  pub set-end-length : length (setEnd total ordinal) ≡ 1 + 2 * w
+  set-end-length =
+      ap length some-set
+      ∙ length-append ((dot ∷ []) ++ digits w total) (digits w ordinal)
+      ∙ omega (arith, digits-length w total, digits-length w ordinal)
 
--- whatever the ordinal
 set-part-length : (total ordinal : ℕ) → length (setPart total ordinal) ≡ 2 * width total
 unfolding setPart
 set-part-length total ordinal =
     let w : ℕ = width total in
     length-append (digits w total) (digits w ordinal) ∙ omega (arith, digits-length w total, digits-length w ordinal)
 
+-- whatever the ordinal
 pub any-ordinal : (total ordinal : ℕ) → length (setEnd total ordinal) ≡ length (setEnd total 0)
 any-ordinal total ordinal = go (eqb total 0)
   where
-    w : ℕ
-    w = width total
-
     go : (t : Bool) → length (if t then [] else (dot ∷ setPart total ordinal)) ≡ length (if t then [] else (dot ∷ setPart total 0))
     go true = refl
     go false = ap suc (set-part-length total ordinal ∙ sym (set-part-length total 0))

@@ -1,5 +1,4 @@
 -- `put_digits`: the digits are stored from the last to the first, and the buffer keeps its length.
-use native.Mathlib.Omega.{arith}
 use Rattle.joining.proofs.Digits.{Putting, putting-start, putting-on, putting-all}
 use borrow.Author.Needs.{needs}
 use Rattle.joining.proofs.put_digits.Statement.{statement}

@@ -1,5 +1,5 @@
 -- `set_length`: nothing, or a dot and twice the width of the total.
-use mathlib.Core.Path.{sym, ap, ap₂, _∙_}
+use mathlib.Core.Path.{sym, ap}
 use native.Mathlib.Omega.{arith}
 use lib.ListN.{length}
 use Rattle.joining.proofs.Pieces.{width-three, no-set, set-end-length}
@@ -22,7 +22,7 @@ add-result c = omega (arith, c .width .ensures, width-three (c .before .before .
 returns-2 : tie.Need-returns-2
 returns-2 c =
     let total = c .before .before .args .total in
-    (omega (arith, c .width .ensures, set-end-length total 0 (c .before .if1 .left)), omega (arith, c .width .ensures, width-three total))
+    (omega (arith, c .width .ensures, set-end-length total 0 (c .width .result) (c .width .ensures) (c .before .if1 .left)), omega (arith, c .width .ensures, width-three total))
 
 pub set-length-spec : {M : Type 1} → statement M
 set-length-spec = tie.close (tie.spec returns width-requires mul-result add-result returns-2)
