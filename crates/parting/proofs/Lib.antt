@@ -1,0 +1,4 @@
+pub mod Finding
+pub mod Counting
+pub mod Numbers
+pub mod Saying
