@@ -1,12 +1,12 @@
 -- Counting parts: what the loop knows at each turn, and how a turn keeps it.
-use mathlib.Core.Path.{_≡_, refl, sym, ap, _∙_}
+use mathlib.Core.Path.{_≡_, refl, ap}
 use Prim.Native.Nat.{ℕ, suc, _+_, _≤_, _<_}
 use native.Mathlib.Omega.{arith}
-use mathlib.Core.List.{List, [], _∷_}
+use mathlib.Core.List.{List}
 use lib.ListN.{length, drop, getD, drop-of-length-le}
 use borrow.Author.Tests.{eq-eqb, ne-eqb}
 use Rattle.format.proofs.Strings.{rest-opened}
-use Rattle.identifier.specs.Parts.{dot, onFirst, parts}
+use Rattle.identifier.specs.Parts.{dot, parts}
 use Rattle.parting.proofs.Finding.{on-first-length}
 
 -- the parts that end before byte i, and the one that stands there, are n

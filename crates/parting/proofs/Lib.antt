@@ -2,3 +2,5 @@ pub mod Finding
 pub mod Counting
 pub mod Numbers
 pub mod Saying
+pub mod Taking
+pub mod One

@@ -1,5 +1,5 @@
 -- What stands behind the first part, or the whole text.
-use mathlib.Core.Path.{_≡_, sym, ap, _∙_}
+use mathlib.Core.Path.{sym, ap, _∙_}
 use mathlib.Core.Bool.{Bool}
 use borrow.Author.Needs.{needs}
 use Rattle.parting.specs.Places.{restIn}

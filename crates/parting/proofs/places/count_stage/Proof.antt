@@ -8,7 +8,6 @@ use mathlib.Core.List.{List}
 use borrow.Author.Needs.{needs}
 use lib.ListN.{length}
 use Rattle.format.specs.Answers.{plain, got, refused, need}
-use Rattle.format.specs.Bytes.{if_then_else_}
 use Rattle.format.proofs.Answers.{need-ok, need-no}
 use Rattle.format.proofs.Text.{between-i, between-over, between-under}
 use Rattle.identifier.specs.Elements.{before, rightCount}
