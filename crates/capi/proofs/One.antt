@@ -1,11 +1,15 @@
 -- The exported calls: one number, one content of each buffer, and one value behind each pointer.
-use mathlib.Core.Path.{_≡_}
+use mathlib.Core.Path.{_≡_, sym, ap, _∙_}
 use Prim.Native.Nat.{ℕ}
+use mathlib.Core.Bool.{not}
 use mathlib.Core.List.{List}
+use lib.Dec.{eqb}
 use Rattle.format.specs.Numbers.{ReadsC, WritesC, EditsC}
 use Rattle.format.proofs.Promises.{c-reads-one, c-writes-one, c-edits-one}
 use Rattle.words.specs.Calls.{decoding, encoding, FillsC}
 use Rattle.words.proofs.Promises.{c-fills-one}
+use Rattle.identifier.specs.Elements.{Elements, three}
+use Rattle.identifier.specs.Calls.{Lengths, Parted, parting, joining, FillsThreeC}
 
 pub urp-read-one : (tag sheet : List ℕ) (used place r r₂ : ℕ) (sheet′ sheet₂ : List ℕ) (used′ used₂ place′ place₂ : ℕ)
     → ReadsC tag sheet used place r sheet′ used′ place′
@@ -36,3 +40,29 @@ pub urp-text-to-words-one : (text words : List ℕ) (used r r₂ : ℕ) (words�
     → FillsC (encoding text words) used r₂ words₂ used₂
     → (r ≡ r₂) × (words′ ≡ words₂) × (used′ ≡ used₂)
 urp-text-to-words-one text words = c-fills-one (encoding text words)
+
+-- two outcomes of a call that fills three are equal
+c-fills-three-one : (o : Parted) (used : Lengths) (r r₂ : ℕ) (after after₂ : Elements) (used′ used₂ : Lengths) → FillsThreeC o used r after used′ → FillsThreeC o used r₂ after₂ used₂
+    → (r ≡ r₂) × (after ≡ after₂) × (used′ ≡ used₂)
+c-fills-three-one o used r r₂ after after₂ used′ used₂ x y = (x .answered ∙ sym (y .answered), x .left ∙ sym (y .left), x .result ∙ sym (y .result))
+
+pub urp-take-apart-one : (text : List ℕ) (leads : ℕ) (item isil set : List ℕ) (used1 used3 used4 r r₂ : ℕ) (item′ item₂ isil′ isil₂ set′ set₂ : List ℕ) (used1′ used1₂ used3′ used3₂ used4′ used4₂ : ℕ)
+    → FillsThreeC (parting (not (eqb leads 0)) text (three item isil set)) (three used1 used3 used4) r (three item′ isil′ set′) (three used1′ used3′ used4′)
+    → FillsThreeC (parting (not (eqb leads 0)) text (three item isil set)) (three used1 used3 used4) r₂ (three item₂ isil₂ set₂) (three used1₂ used3₂ used4₂)
+    → (r ≡ r₂) × (item′ ≡ item₂) × (isil′ ≡ isil₂) × (set′ ≡ set₂) × (used1′ ≡ used1₂) × (used3′ ≡ used3₂) × (used4′ ≡ used4₂)
+urp-take-apart-one text leads item isil set used1 used3 used4 r r₂ item′ item₂ isil′ isil₂ set′ set₂ used1′ used1₂ used3′ used3₂ used4′ used4₂ x y =
+    let e = c-fills-three-one _ _ r r₂ _ _ _ _ x y in (
+      e .0,
+      ap (λ (t : Elements). t .item) (e .1),
+      ap (λ (t : Elements). t .isil) (e .1),
+      ap (λ (t : Elements). t .set) (e .1),
+      ap (λ (t : Lengths). t .item) (e .2),
+      ap (λ (t : Lengths). t .isil) (e .2),
+      ap (λ (t : Lengths). t .set) (e .2),
+    )
+
+pub urp-put-together-one : (item isil set text : List ℕ) (used r r₂ : ℕ) (text′ text₂ : List ℕ) (used′ used₂ : ℕ)
+    → FillsC (joining (three item isil set) text) used r text′ used′
+    → FillsC (joining (three item isil set) text) used r₂ text₂ used₂
+    → (r ≡ r₂) × (text′ ≡ text₂) × (used′ ≡ used₂)
+urp-put-together-one item isil set text = c-fills-one (joining (three item isil set) text)

@@ -1,0 +1,5 @@
+mod Pieces
+mod Digits
+mod Good
+mod Ways
+pub mod One
