@@ -80,19 +80,21 @@ returns-4 c =
 
 put-bytes-requires-2 : tie.Need-put-bytes-requires-2
 put-bytes-requires-2 c κs =
-    let u = past-count (past-names (c .before .before .before .before .before .before .before .before)) in
-    rw zero-add (ltb-false (length (at-start u .args .isil .now)) (length (u .before .before .isil-part .result .now)) (c .before .before .before .before .before .before .if2 .left))
+    let l = c .before .before .before .before .before .before in
+    let u = past-count (past-names (l .before .before)) in
+    rw zero-add (ltb-false (length (at-start u .args .isil .now)) (length (u .before .before .isil-part .result .now)) (l .if2 .left))
 
 returns-5 : tie.Need-returns-5
 returns-5 c =
-    let t = c .before .before .before .before .before .before .before .before .before .before .before .before .before .before .before in
+    let p = c .before .before .before .before .before .before .before .before .before .before in
+    let t = p .before .before .before .before .before in
     let k = past-names t in
     let u = past-count k in
     let a = at-start u .args in
-    taken _ _ _ (found u) (named k) (said t) _ _ _ (c .before .before .before .before .before .before .before .before .before .before .before .before .before .before .if1 .left)
-    (ltb-false (length (a .isil .now)) (length (u .before .before .isil-part .result .now)) (c .before .before .before .before .before .before .before .before .before .before .before .before .before .if2 .left))
-    (ltb-false (length (a .set .now)) 4 (c .before .before .before .before .before .before .before .before .before .before .before .before .if3 .left))
-    (c .before .before .before .before .before .before .before .before .before .before .put-bytes .ensures) (c .before .before .before .before .before .before .put-bytes2 .ensures) (c .before .before .put-set .ensures)
+    taken _ _ _ (found u) (named k) (said t) _ _ _ (p .before .before .before .before .if1 .left)
+    (ltb-false (length (a .isil .now)) (length (u .before .before .isil-part .result .now)) (p .before .before .before .if2 .left))
+    (ltb-false (length (a .set .now)) 4 (p .before .before .if3 .left))
+    (p .put-bytes .ensures) (c .before .before .before .before .before .before .put-bytes2 .ensures) (c .before .before .put-set .ensures)
 
 pub take-apart-spec : {M : Type 1} → statement M
 take-apart-spec =
