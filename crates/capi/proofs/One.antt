@@ -1,5 +1,5 @@
 -- The exported calls: one number, one content of each buffer, and one value behind each pointer.
-use mathlib.Core.Path.{_≡_, sym, ap, _∙_}
+use mathlib.Core.Path.{_≡_, ap}
 use Prim.Native.Nat.{ℕ}
 use mathlib.Core.Bool.{not}
 use mathlib.Core.List.{List}
@@ -9,7 +9,8 @@ use Rattle.format.proofs.Promises.{c-reads-one, c-writes-one, c-edits-one}
 use Rattle.words.specs.Calls.{decoding, encoding, FillsC}
 use Rattle.words.proofs.Promises.{c-fills-one}
 use Rattle.identifier.specs.Elements.{Elements, three}
-use Rattle.identifier.specs.Calls.{Lengths, Parted, parting, joining, FillsThreeC}
+use Rattle.identifier.specs.Calls.{Lengths, parting, joining, FillsThreeC}
+use Rattle.identifier.proofs.Promises.{c-fills-three-one}
 
 pub urp-read-one : (tag sheet : List ℕ) (used place r r₂ : ℕ) (sheet′ sheet₂ : List ℕ) (used′ used₂ place′ place₂ : ℕ)
     → ReadsC tag sheet used place r sheet′ used′ place′
@@ -40,11 +41,6 @@ pub urp-text-to-words-one : (text words : List ℕ) (used r r₂ : ℕ) (words�
     → FillsC (encoding text words) used r₂ words₂ used₂
     → (r ≡ r₂) × (words′ ≡ words₂) × (used′ ≡ used₂)
 urp-text-to-words-one text words = c-fills-one (encoding text words)
-
--- two outcomes of a call that fills three are equal
-c-fills-three-one : (o : Parted) (used : Lengths) (r r₂ : ℕ) (after after₂ : Elements) (used′ used₂ : Lengths) → FillsThreeC o used r after used′ → FillsThreeC o used r₂ after₂ used₂
-    → (r ≡ r₂) × (after ≡ after₂) × (used′ ≡ used₂)
-c-fills-three-one o used r r₂ after after₂ used′ used₂ x y = (x .answered ∙ sym (y .answered), x .left ∙ sym (y .left), x .result ∙ sym (y .result))
 
 pub urp-take-apart-one : (text : List ℕ) (leads : ℕ) (item isil set : List ℕ) (used1 used3 used4 r r₂ : ℕ) (item′ item₂ isil′ isil₂ set′ set₂ : List ℕ) (used1′ used1₂ used3′ used3₂ used4′ used4₂ : ℕ)
     → FillsThreeC (parting (not (eqb leads 0)) text (three item isil set)) (three used1 used3 used4) r (three item′ isil′ set′) (three used1′ used3′ used4′)

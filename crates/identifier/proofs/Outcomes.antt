@@ -108,13 +108,12 @@ module _ (leads : Bool) (s : List ℕ) (buffers : Elements) where
       (λ n. decide (roomFor (lengths buffers) its) (λ m. done r g n m (all-ok r g n m)) (λ m. short r g n m (short-no r g n m))))
       (λ g. bad r g (bad-no r g)))
       (λ r. count r (count-no r))
-
-  -- ---- the contract, once the answer is known
+      -- ---- the contract, once the answer is known
 
   pub three-refused : {k : ℕ} → answer ≡ refused (plain k) → FillsThree (parting leads s buffers) (Refused k) buffers
   unfolding parting
   three-refused {k} e = record { answered = sym e; left = sym (afterwards-refused _ (plain k) (filledAll its buffers) buffers e) }
 
-  pub three-done : (after : Elements) → answer ≡ got (lengths its) → after ≡ filledAll its buffers → FillsThree (parting leads s buffers) (Done (length (its .item)) (length (its .isil)) (length (its .set))) after
+  pub three-done : {a b c : ℕ} (after : Elements) → answer ≡ got (three a b c) → after ≡ filledAll its buffers → FillsThree (parting leads s buffers) (Done a b c) after
   unfolding parting
-  three-done after e f = record { answered = sym e; left = f ∙ sym (afterwards-got _ (lengths its) (filledAll its buffers) buffers e) }
+  three-done {a} {b} {c} after e f = record { answered = sym e; left = f ∙ sym (afterwards-got _ (three a b c) (filledAll its buffers) buffers e) }

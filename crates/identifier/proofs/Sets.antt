@@ -43,6 +43,11 @@ is-width t l h =
     decide (leb t 9) (λ e. rw e (one-digit l (leb-true t 9 e)))
     (λ e. decide (leb t 99) (λ f. rw (e, f) (two-digits (leb-false t 9 e) (leb-true t 99 f))) (λ f. rw (e, f) (three-digits (leb-false t 99 f) h)))
 
+pub width-few : (t : ℕ) → width t ≤ 3
+unfolding width
+width-few t =
+    decide (leb t 9) (λ e. rw e (omega arith)) (λ e. decide (leb t 99) (λ f. rw (e, f) (omega arith)) (λ f. rw (e, f) (omega arith)))
+
 -- ---- element 4
 
 -- its bytes

@@ -52,15 +52,6 @@ unfolding digits
 digits-length zero n = refl
 digits-length (suc k) n = length-append (digits k (n / 10)) _ ∙ omega (arith, digits-length k (n / 10))
 
-pub width-three : (n : ℕ) → width n ≤ 3
-unfolding width
-width-three n = go (leb n 9) (leb n 99)
-  where
-    go : (t u : Bool) → (if t then 1 else if u then 2 else 3) ≤ 3
-    go true u = omega arith
-    go false true = omega arith
-    go false false = omega arith
-
 pub no-set : (total ordinal : ℕ) → total ≡ 0 → setEnd total ordinal ≡ []
 no-set total ordinal e = rw (eq-eqb total 0 e)
 

@@ -11,11 +11,7 @@ use Rattle.format.proofs.Passing.{passed-at}
 use Rattle.format.proofs.Strings.{rest-opened}
 use Rattle.format.proofs.Text.{between-facts}
 use Rattle.identifier.specs.SetDigits.{digit, numberFrom, numberIn}
-
--- the numbers that i digits say are below this
-unfoldable pub tens : ℕ → ℕ
-tens zero = 1
-tens (suc i) = 10 * tens i
+use Rattle.identifier.proofs.Digits.{tens}
 
 -- the digits before byte i say n
 pub record Reading (s : List ℕ) (i n : ℕ) : Type 0 where

@@ -58,15 +58,6 @@ read-bad p n =
     let e : saysSet p ≡ false = same-truth (saysSet p) false (λ t. absurd (n (says-of p t))) (λ t. never (cc)) in
     sym (next-no 6 (saysSet p) [] (numbers (totalIn p) (ordinalIn p)) e)
 
-pub width-few : (t : ℕ) → width t ≤ 3
-unfolding width
-width-few t = go (leb t 9) (leb t 99)
-  where
-    go : (a b : Bool) → (if a then 1 else if b then 2 else 3) ≤ 3
-    go true b = omega arith
-    go false true = omega arith
-    go false false = omega arith
-
 -- ---- the halves as code takes them
 
 module _ (p : List ℕ) where

@@ -18,6 +18,7 @@ use Rattle.identifier.specs.declared.PartedAnswer.the-variants.{Done, Refused}
 use Rattle.identifier.specs.Parts.{dot, parts}
 use Rattle.identifier.specs.Elements.{Elements, three, rightCount, isilPart, itemPart, setPlace, pointing, goodSet, goodParts, setOf, elementsOf}
 use Rattle.identifier.specs.Calls.{Lengths, lengths, roomFor, partSteps, filledAll, parting, FillsThree}
+use Rattle.identifier.proofs.Outcomes.{three-refused, three-done}
 use Rattle.parting.specs.Places.{isilIn, restIn, placeIn}
 use Rattle.parting.specs.Sets.{SetNumbers, numbersIn, standsIn}
 use Rattle.parting.proofs.Finding.{isil-found, item-found, set-found}
@@ -53,22 +54,11 @@ module _ (leads : Bool) (s : List ℕ) (buffers : Elements) where
   abbrev answer : Answer Lengths
   answer = inOrder (partSteps leads (lengths buffers) (parts s)) (lengths out)
 
-  -- ---- the contract, once the answer is known
-
-  fills-refused : {k : ℕ} → answer ≡ refused (plain k) → FillsThree (parting leads s buffers) (Refused k) buffers
-  unfolding parting
-  fills-refused {k} e = record { answered = sym e; left = sym (afterwards-refused _ (plain k) (filledAll out buffers) buffers e) }
-
-  fills-done : {a b c : ℕ} (after : Elements) → answer ≡ got (three a b c) → after ≡ filledAll out buffers → FillsThree (parting leads s buffers) (Done a b c) after
-  unfolding parting
-  fills-done {a} {b} {c} after e f =
-      record { answered = sym e; left = f ∙ sym (afterwards-got _ (three a b c) (filledAll out buffers) buffers e) }
-
   -- ---- 22
 
   pub count-refused : {k : ℕ} → need 22 (rightCount leads (parts s)) ≡ refused (plain k) → FillsThree (parting leads s buffers) (Refused k) buffers
   unfolding partSteps
-  count-refused {k} e = fills-refused (first-no _ _ (lengths out) (plain k) e)
+  count-refused {k} e = three-refused leads s buffers (first-no _ _ (lengths out) (plain k) e)
 
   -- ---- behind the count: what code found are the parts
 
@@ -105,7 +95,7 @@ module _ (leads : Bool) (s : List ℕ) (buffers : Elements) where
     pub names-refused : {k : ℕ} → need 6 goodNames ≡ refused (plain k) → FillsThree (parting leads s buffers) (Refused k) buffers
     names-refused {k} e =
         let r = need-refused 6 goodNames (plain k) e in
-        fills-refused (behind-count ∙ next-no 6 _ _ (lengths out) (and-left goodNames _ (r .0)) ∙ ap refused (sym (r .1)))
+        three-refused leads s buffers (behind-count ∙ next-no 6 _ _ (lengths out) (and-left goodNames _ (r .0)) ∙ ap refused (sym (r .1)))
 
     -- ---- 6 and 23, the set's place
 
@@ -116,7 +106,7 @@ module _ (leads : Bool) (s : List ℕ) (buffers : Elements) where
       pub set-refused : {k : ℕ} → standsIn (placeIn (drop (length name) rest)) ≡ refused (plain k) → FillsThree (parting leads s buffers) (Refused k) buffers
       unfolding standsIn
       set-refused {k} e =
-          fills-refused
+          three-refused leads s buffers
           (behind-names ∙ refused-on (_ ∷ _ ∷ []) _ (numbersIn (setPlace leads (parts s))) (lengths out) (plain k) (sym (ap standsIn place-is) ∙ e))
 
       module _ {n : SetNumbers} (said : standsIn (placeIn (drop (length name) rest)) ≡ got n) where
@@ -139,7 +129,7 @@ module _ (leads : Bool) (s : List ℕ) (buffers : Elements) where
 
         no-room : leb (length name) (length (buffers .item)) && leb (length owner) (length (buffers .isil)) && leb 4 (length (buffers .set)) ≡ false
             → FillsThree (parting leads s buffers) (Refused 2) buffers
-        no-room e = fills-refused (behind-set ∙ next-no 2 _ [] (lengths out) (room-is ∙ e))
+        no-room e = three-refused leads s buffers (behind-set ∙ next-no 2 _ [] (lengths out) (room-is ∙ e))
 
         pub no-room-item : length (buffers .item) < length name → FillsThree (parting leads s buffers) (Refused 2) buffers
         no-room-item h = no-room (and-left _ _ (and-left _ _ (lt-leb (length name) (length (buffers .item)) h)))
@@ -164,7 +154,7 @@ module _ (leads : Bool) (s : List ℕ) (buffers : Elements) where
             let room = and-i (and-i (le-leb _ _ hi) (le-leb _ _ ho)) (le-leb 4 _ hs) in
             let long : lengths out ≡ three (length name) (length owner) 4 =
             three-same (ap length (sym name-is)) (ap length (sym owner-is)) (set-length (setPlace leads (parts s))) in
-            fills-done (three item isil set) (behind-set ∙ next-ok 2 _ [] (lengths out) (room-is ∙ room) ∙ none-ok _ ∙ ap got long)
+            three-done leads s buffers (three item isil set) (behind-set ∙ next-ok 2 _ [] (lengths out) (room-is ∙ room) ∙ none-ok _ ∙ ap got long)
             (three-same (stored-front _ item name _ si .1 ∙ ap (λ (e : List ℕ). filled e (buffers .item)) name-is)
             (stored-front _ isil owner _ so .1 ∙ ap (λ (e : List ℕ). filled e (buffers .isil)) owner-is)
             (stored-front (buffers .set) set (setBytes (n .total) (n .ordinal)) 4 ss .1 ∙ ap (λ (e : List ℕ). filled e (buffers .set)) set-is))
