@@ -61,13 +61,10 @@ fn case(group: &'static str, elements: [&[u8]; 3], room: usize) -> Case {
     Case::new(group, Call::together(elements.map(<[u8]>::to_vec), vec![0xEE; room]))
 }
 
-/// No elements, often enough that the buffers are passed in every way, and none but the identifier.
+/// No elements, and few, often enough that the buffers are passed in every way.
 fn nothing() -> impl Iterator<Item = Case> + Send {
-    (0..32).map(|time| {
-        let (item, set): (&[u8], &[u8]) =
-            [(&b""[..], &b""[..]), (b"", &[0; 4]), (b"a", b""), (b"a", &[0; 4])][time % 4];
-        case("few elements or none", [item, b"", set], time / 16)
-    })
+    let few: [[&[u8]; 3]; 4] = [[b"", b"", b""], [b"", b"", &[0; 4]], [b"a", b"", b""], [b"a", b"", &[0; 4]]];
+    (0..64).map(move |time| case("few elements or none", few[time / 16], time / 8 % 2))
 }
 
 /// The elements of the papers' text in every room up to one more than is needed.
