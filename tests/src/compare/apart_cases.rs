@@ -69,9 +69,14 @@ fn unfilled(rooms: [usize; 3]) -> [Vec<u8>; 3] {
     rooms.map(|room| vec![0xEE; room])
 }
 
-/// The text, by a caller who says yes and by one who says no, with room enough.
+/// The text with room enough.
+fn with_room(group: &'static str, text: &[u8], isil_leads: u32) -> Case {
+    Case::new(group, Call::apart(text.to_vec(), isil_leads, unfilled([258, 17, 5])))
+}
+
+/// The same by a caller who says no and by one who says yes.
 fn both_ways(group: &'static str, text: &[u8]) -> [Case; 2] {
-    [0, 1].map(|isil_leads| Case::new(group, Call::apart(text.to_vec(), isil_leads, unfilled([258, 17, 5]))))
+    [0, 1].map(|isil_leads| with_room(group, text, isil_leads))
 }
 
 /// No text, often enough that the buffers are passed in every way, and every way to say yes.
@@ -96,11 +101,11 @@ fn published() -> impl Iterator<Item = Case> + Send {
     })
 }
 
-/// Every text of up to five characters of six, alone and behind an ISIL.
+/// Every text of up to four characters of six, alone and behind an ISIL.
 fn short() -> impl Iterator<Item = Case> + Send {
-    texts(b".S31D-", 5).flat_map(|text| {
-        let behind = both_ways("all texts of up to 5 of 6 characters", &[b"D-1.", &text[..]].concat());
-        both_ways("all texts of up to 5 of 6 characters", &text).into_iter().chain(behind)
+    texts(b".S31D-", 4).flat_map(|text| {
+        let behind = both_ways("all texts of up to 4 of 6 characters", &[b"D-1.", &text[..]].concat());
+        both_ways("all texts of up to 4 of 6 characters", &text).into_iter().chain(behind)
     })
 }
 
@@ -114,9 +119,8 @@ fn sets() -> impl Iterator<Item = Case> + Send {
     let digits = four.chain(six).map(String::into_bytes);
     let bad = identifiers::bad_sets().into_iter().map(<[u8]>::to_vec);
     digits.chain(bad).flat_map(|set| {
-        let group = "digits in the set's place";
-        let led = both_ways(group, &[b"DK-1.X.", &set[..]].concat());
-        both_ways(group, &[b"X.", &set[..]].concat()).into_iter().chain(led)
+        [(&b"X."[..], 0), (b"DK-1.X.", 1)]
+            .map(|(before, isil_leads)| with_room("digits in the set's place", &[before, &set].concat(), isil_leads))
     })
 }
 
