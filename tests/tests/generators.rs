@@ -495,19 +495,15 @@ fn faults_of_identifiers_stand_together_and_rooms_are_of_every_kind() {
     // Which faults a text shows besides its refusal, and which of the three rooms are short.
     let (mut together_with, mut short) = (BTreeSet::new(), BTreeMap::new());
     for _ in 0..20_000 {
-        let Text { text, isil_leads, right } = identifiers::text(&mut random);
-        let exact = right.clone().map_or([8, 8, 4], |elements| elements.map(|element| element.len()));
-        let rooms = identifiers::rooms(&mut random, exact);
+        let made = identifiers::text(&mut random);
+        let (exact, rooms) = (made.lengths(), identifiers::rooms(&mut random, made.lengths()));
+        let Text { text, isil_leads, right } = made;
         *apart_met.entry(number(apart_into(&text, isil_leads, rooms))).or_default() += 1;
-        match right {
-            Ok(_) => {
-                let off: [isize; 3] = std::array::from_fn(|place| rooms[place] as isize - exact[place] as isize);
-                *short.entry(off.map(|off| off.clamp(-1, 1))).or_insert(0) += 1;
-            }
-            Err(number) => {
-                let last_is_s = text.ends_with(b".S");
-                together_with.insert((number, last_is_s, rooms == [0; 3]));
-            }
+        if let Err(number) = right {
+            together_with.insert((number, text.ends_with(b".S"), rooms == [0; 3]));
+        } else {
+            let off: [isize; 3] = std::array::from_fn(|place| rooms[place] as isize - exact[place] as isize);
+            *short.entry(off.map(|off| off.clamp(-1, 1))).or_insert(0) += 1;
         }
         let Elements { elements, right } = identifiers::elements(&mut random);
         let room = words::room(&mut random, right.map_or(20, |text| text.len()));

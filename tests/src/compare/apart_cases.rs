@@ -14,33 +14,37 @@ pub fn all(seed: u64, count: usize) -> impl Iterator<Item = Case> + Send {
     fixed.chain(random(seed, count))
 }
 
-/// Random characters, texts that were built, and texts good and bad.
+/// Random bytes, random characters with dots among them, texts that were built, and texts good and bad.
 pub fn random(seed: u64, count: usize) -> impl Iterator<Item = Case> + Send {
     let mut random = Random::new(seed);
     (0..count).map(move |_| match random.below(8) {
         0 => {
-            let length = random.below(20);
-            let text = (0..length).map(|_| random.pick(b"...S0123DK--a\xC3\xA9\0")).collect();
-            let isil_leads = random.pick(&LEADS);
-            in_any_room(&mut random, "random characters", Text { text, isil_leads, right: Err(0) })
+            let (length, isil_leads) = (random.below(20), random.pick(&LEADS));
+            let among = random.pick(&[&b".S0123DK-a\xC3\xA9\0"[..], b"...31"]);
+            let mut character = || if random.one_in(8) { random.byte() } else { random.pick(among) };
+            let text = (0..length).map(|_| character()).collect();
+            in_any_room(&mut random, "random bytes and characters", text, isil_leads, [length, length, 4])
         }
         1 | 2 => built(&mut random),
         _ => {
-            let text = identifiers::text(&mut random);
-            let group = match text.right {
-                Err(22) => "texts of too few or too many parts",
-                Err(6) => "texts with a bad part",
-                Err(_) => "texts that point to another bank",
-                Ok(_) => "texts with good parts",
-            };
-            in_any_room(&mut random, group, text)
+            let made = identifiers::text(&mut random);
+            let (group, lengths) = (group_of(&made), made.lengths());
+            in_any_room(&mut random, group, made.text, made.isil_leads, lengths)
         }
     })
 }
 
-fn in_any_room(random: &mut Random, group: &'static str, Text { text, isil_leads, right }: Text) -> Case {
-    let exact = right.map_or([8, 8, 4], |elements| elements.map(|element| element.len()));
-    let rooms = identifiers::rooms(random, exact);
+fn group_of(text: &Text) -> &'static str {
+    match text.right {
+        Err(22) => "texts of too few or too many parts",
+        Err(6) => "texts with a bad part",
+        Err(_) => "texts that point to another bank",
+        Ok(_) => "texts with good parts",
+    }
+}
+
+fn in_any_room(random: &mut Random, group: &'static str, text: Vec<u8>, isil_leads: u32, lengths: [usize; 3]) -> Case {
+    let rooms = identifiers::rooms(random, lengths);
     Case::new(group, Call::apart(text, isil_leads, rooms.map(|room| random.bytes(room))))
 }
 

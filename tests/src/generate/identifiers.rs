@@ -29,6 +29,13 @@ pub struct Text {
     pub right: Result<[Vec<u8>; 3], u32>,
 }
 
+impl Text {
+    /// The lengths of its elements; of a text that is refused, some.
+    pub fn lengths(&self) -> [usize; 3] {
+        self.right.as_ref().map_or([8, 8, 4], |elements| elements.each_ref().map(Vec::len))
+    }
+}
+
 /// Elements 1, 3 and 4, and what must become of them where there is room: a text, or 9.
 pub struct Elements {
     pub elements: [Vec<u8>; 3],
