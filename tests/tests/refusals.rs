@@ -212,23 +212,17 @@ fn text_into_words_gives_21_before_2() {
 fn taking_apart_gives_each_refusal() {
     assert_eq!(APART, [22, 6, 23, 2]);
     let enough = [1, 4, 4];
-    for (text, isil_leads, number) in [
-        (&b"DK-1"[..], 1, 22),
-        (b"DK-1.X.31.", 1, 22),
-        (b"X.31.", 0, 22),
-        (b"dk-1.X.31", 1, 6),
-        (b"DK-1..31", 1, 6),
-        (b"DK-1.\x7F.31", 1, 6),
-        (&[b'x'; 256], 0, 6),
-        (b"DK-1.X.", 1, 6),
-        (b"DK-1.X.32S", 1, 6),
-        (b"DK-1.X.00", 1, 6),
-        (b"X.13", 0, 6),
-        (b"DK-1.X.S", 1, 23),
-        (b"X.S", 0, 23),
-    ] {
-        assert_eq!(apart_into(text, isil_leads, enough), Err(number), "{text:02X?}");
-    }
+    let given = |texts: &[&[u8]], isil_leads: u32, number: u32| {
+        for text in texts {
+            assert_eq!(apart_into(text, isil_leads, enough), Err(number), "{text:02X?}");
+        }
+    };
+    given(&[b"DK-1", b"DK-1.X.31."], 1, 22);
+    given(&[b"X.31.", b"DK-1.X.31"], 0, 22);
+    given(&[b"dk-1.X.31", b"DK-1..31", b"DK-1.\x7F.31", b"DK-1.X.", b"DK-1.X.32S", b"DK-1.X.00"], 1, 6);
+    given(&[b"", &[b'x'; 256], b"X.13"], 0, 6);
+    given(&[b"DK-1.X.S"], 1, 23);
+    given(&[b"X.S"], 0, 23);
     for short in 0..3 {
         let mut rooms = enough;
         rooms[short] -= 1;

@@ -9,6 +9,7 @@ use independent::generate::words;
 use independent::model::{put_together, take_apart};
 use independent::random::Random;
 use independent::trial::{apart, apart_into, confirmed, to_text, to_words, together, together_into};
+use std::collections::BTreeMap;
 
 /// Elements 1, 3 and 4 as a test lists them.
 fn elements(item: &[u8], isil: &[u8], total: u8, ordinal: u8) -> Result<[Vec<u8>; 3], u32> {
@@ -36,20 +37,14 @@ fn try_item(item: &[u8], good: bool) {
     }
 }
 
-/// Total and ordinal of a row of digits by the request's sentence, one number after another. None for what is no set.
-fn by_counting(digits: &str) -> Option<(u8, u8)> {
-    (1..=255u8).flat_map(|total| (0..=total).map(move |ordinal| (total, ordinal))).find(|(total, ordinal)| {
+/// All set information in digits, number after number: "leading zeros kept", and as many digits for both as the total takes.
+fn all_sets() -> BTreeMap<String, (u8, u8)> {
+    let pairs = (1..=255u8).flat_map(|total| (0..=total).map(move |ordinal| (total, ordinal)));
+    let digits = |(total, ordinal): (u8, u8)| {
         let width = total.to_string().len();
-        digits == format!("{total}{ordinal:0>width$}")
-    })
-}
-
-/// The same by a rule of its own, for the many.
-fn by_rule(digits: &str) -> Option<(u8, u8)> {
-    let (total, ordinal) = digits.split_at(digits.len() / 2);
-    let (total, ordinal): (u32, u32) = (total.parse().unwrap(), ordinal.parse().unwrap());
-    let least = [0, 1, 10, 100][digits.len() / 2];
-    (total >= least && total < 256 && ordinal <= total).then_some((total as u8, ordinal as u8))
+        (format!("{total}{ordinal:0>width$}"), (total, ordinal))
+    };
+    pairs.map(digits).collect()
 }
 
 #[test]
@@ -241,37 +236,35 @@ fn point_39_the_total_decides_the_count_of_digits() {
     {
         assert_eq!(set(good.as_bytes()), Ok((total, ordinal)), "{good}");
     }
-    for number in 0..100 {
-        let digits = format!("{number:02}");
-        assert_eq!(set(digits.as_bytes()), by_counting(&digits).ok_or(6), "{digits}");
-    }
-    for number in (0..10_000).step_by(7).chain(900..1200) {
-        let digits = format!("{number:04}");
-        assert_eq!(set(digits.as_bytes()), by_counting(&digits).ok_or(6), "{digits}");
+    let sets = all_sets();
+    let two = (0..100).map(|number| format!("{number:02}"));
+    let four = (0..10_000).step_by(7).chain(900..1200).map(|number| format!("{number:04}"));
+    for digits in two.chain(four) {
+        assert_eq!(set(digits.as_bytes()), sets.get(&digits).copied().ok_or(6), "{digits}");
     }
 }
 
 #[test]
 fn every_two_four_and_six_digits_both_ways() {
     // By the model alone; the comparison has those at each bound by the library.
-    let mut good = 0;
+    let (sets, mut good) = (all_sets(), 0);
     for width in [2, 4, 6] {
         for number in 0..10u32.pow(width) {
             let digits = format!("{number:0width$}", width = width as usize);
             let text = [b"X.", digits.as_bytes()].concat();
             let (mut item, mut set) = ([0; 1], [0xEE; 4]);
             let lengths = take_apart(&text, 0, [&mut item, &mut [], &mut set]);
-            let right = by_rule(&digits);
+            let right = sets.get(&digits);
             assert_eq!(lengths, right.map(|_| [1, 0, 4]).ok_or(6), "{digits}");
             let Some((total, ordinal)) = right else { continue };
-            assert_eq!(set, [total, 0, ordinal, 0], "{digits}");
+            assert_eq!(set, [*total, 0, *ordinal, 0], "{digits}");
             let mut built = [0; 8];
             assert_eq!(put_together(b"X", b"", &set, &mut built), Ok(text.len()), "{digits}");
             assert_eq!(built[..text.len()], text, "{digits}");
             good += 1;
         }
     }
-    assert_eq!(good, (1..=255).map(|total| total + 1).sum::<u32>(), "each total with its ordinals, once");
+    assert_eq!((good, sets.len()), ((2..=256).sum(), good), "each total with its ordinals, once");
 }
 
 #[test]

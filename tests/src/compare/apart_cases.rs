@@ -1,6 +1,7 @@
 //! Cases of taking an identifier apart.
 
 use super::case::{Call, Case, Outcome};
+use super::text_cases::name;
 use super::to_words_cases::texts;
 use crate::examples;
 use crate::generate::identifiers::{self, Elements, Text, LEADS};
@@ -130,51 +131,38 @@ fn sets() -> impl Iterator<Item = Case> + Send {
 
 /// Every byte in each part.
 fn every_byte() -> impl Iterator<Item = Case> + Send {
-    let around: [(&[u8], &[u8]); 9] = [
-        (b"", b""),
-        (b"a", b"b"),
-        (b"D", b"-1.X"),
-        (b"DK-", b".X"),
-        (b"DK-1.", b""),
-        (b"DK-1.a", b".31"),
-        (b"X.", b""),
-        (b"X.", b"0"),
-        (b"X.10", b"0"),
-    ];
+    let texts = ["*", "a*b", "D*-1.X", "DK-*.X", "DK-1.*", "DK-1.a*.31", "X.*", "X.*0", "X.10*0"];
     (0..=255).flat_map(move |byte| {
-        around
-            .into_iter()
-            .flat_map(move |(before, behind)| both_ways("every byte in each part", &[before, &[byte], behind].concat()))
+        texts.into_iter().flat_map(move |text| both_ways("every byte in each part", &with_part(text, &[byte])))
     })
 }
 
-/// Identifiers about as long as the limit, and longer than two bytes count, with and without other parts, in letters and in
-/// characters of 2 and 3 bytes; and ISILs of every length.
+/// The text with these bytes for its star.
+fn with_part(text: &str, part: &[u8]) -> Vec<u8> {
+    text.split('*').map(str::as_bytes).collect::<Vec<_>>().join(part)
+}
+
+/// Identifiers about as long as the limit, with and without other parts, in letters and in characters of 2 and 3 bytes; and
+/// ISILs of every length.
 fn lengths() -> impl Iterator<Item = Case> + Send {
-    let items = (0..=3).chain(250..=260).chain([511, 512, 65_535, 65_536, 65_791]).flat_map(|length| {
-        ["x", "é", "€"].map(|character| {
-            let mut item = character.repeat(length / character.len()).into_bytes();
-            item.resize(length, b'x');
-            item
-        })
-    });
+    let items = about_the_limit().flat_map(|length| ["x", "é", "€"].map(|character| name(character, length)));
     let identifiers = items.flat_map(|item| {
-        let around: [(&[u8], &[u8]); 6] = [
-            (b"", b""),
-            (b"", b".31"),
-            (b"", b".S"),
-            (b"DK-1.", b""),
-            (b"DK-1.", b".31"),
-            (b"OCLC-12345678901.", b".255001"),
-        ];
-        around.into_iter().flat_map(move |(before, behind)| {
-            both_ways("identifiers about as long as the limit", &[before, &item, behind].concat())
-        })
+        let texts = ["*", "*.31", "*.S", "DK-1.*", "DK-1.*.31", "OCLC-12345678901.*.255001"];
+        texts
+            .into_iter()
+            .flat_map(move |text| both_ways("identifiers about as long as the limit", &with_part(text, &item)))
     });
-    let isils = (0..=6).flat_map(|prefix| (0..=13).map(move |unit| (prefix, unit)));
-    identifiers.chain(isils.flat_map(|(prefix, unit)| {
-        both_ways("ISILs of every length", format!("{:A<prefix$}-{:1<unit$}.X", "", "").as_bytes())
-    }))
+    identifiers.chain(isils().flat_map(|isil| both_ways("ISILs of every length", &with_part("*.X", isil.as_bytes()))))
+}
+
+/// Lengths of an identifier about 255, and those that a byte, or two, would take for shorter ones.
+pub fn about_the_limit() -> impl Iterator<Item = usize> + Send {
+    (0..=3).chain(250..=260).chain([511, 512, 65_535, 65_536, 65_791])
+}
+
+/// Capitals, a hyphen and digits in numbers that make an ISIL, and in others.
+pub fn isils() -> impl Iterator<Item = String> + Send {
+    (0..=6).flat_map(|prefix| (0..=13).map(move |unit| format!("{:A<prefix$}-{:1<unit$}", "", "")))
 }
 
 /// Good and bad parts in all ways together, with one part more or less, and with any of the three rooms short: the order.

@@ -91,7 +91,7 @@ fn limits() -> impl Iterator<Item = Case> + Send {
 }
 
 /// A text of exactly so many bytes: this character, and letters of one byte where it does not go in.
-fn name(character: &str, length: usize) -> Vec<u8> {
+pub fn name(character: &str, length: usize) -> Vec<u8> {
     let mut name = character.repeat(length / character.len()).into_bytes();
     name.resize(length, b'x');
     name

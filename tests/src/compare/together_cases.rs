@@ -1,5 +1,6 @@
 //! Cases of putting an identifier together.
 
+use super::apart_cases::{about_the_limit, isils};
 use super::case::{Call, Case, Outcome};
 use super::to_words_cases::texts;
 use crate::generate::identifiers::{self, Elements, Text};
@@ -111,28 +112,18 @@ fn dots() -> impl Iterator<Item = Case> + Send {
     items.chain(isils)
 }
 
-/// Identifiers about as long as the limit, and longer than two bytes count, beside the shortest and the longest others, in
-/// rooms that are exact and one short; and ISILs of every length.
+/// Identifiers about as long as the limit beside the shortest and the longest others, in rooms that are exact and one short;
+/// and ISILs of every length.
 fn lengths() -> impl Iterator<Item = Case> + Send {
-    let items = (0..=3).chain(250..=260).chain([511, 512, 65_535, 65_536, 65_791]);
-    let identifiers = items.flat_map(|length| {
-        let others: [(&[u8], &[u8], usize); 4] = [
-            (b"", &[0; 4], 0),
-            (b"D-1", &[0; 4], 4),
-            (b"", &[9, 0, 9, 0], 3),
-            (b"OCLC-12345678901", &[100, 0, 0, 0], 24),
-        ];
+    let identifiers = about_the_limit().flat_map(|length| {
+        let others: [(&[u8], [u8; 4], usize); 4] =
+            [(b"", [0; 4], 0), (b"D-1", [0; 4], 4), (b"", [9, 0, 9, 0], 3), (b"OCLC-12345678901", [100, 0, 0, 0], 24)];
         others.into_iter().flat_map(move |(isil, set, more)| {
-            let item = vec![b'x'; length];
             [length + more, (length + more).saturating_sub(1), 0]
-                .map(|room| case("identifiers about as long as the limit", [&item, isil, set], room))
+                .map(|room| case("identifiers about as long as the limit", [&vec![b'x'; length], isil, &set], room))
         })
     });
-    let isils = (0..=6).flat_map(|prefix| (0..=13).map(move |unit| (prefix, unit)));
-    identifiers.chain(isils.map(|(prefix, unit)| {
-        let isil = format!("{:A<prefix$}-{:1<unit$}", "", "");
-        case("ISILs of every length", [b"X", isil.as_bytes(), &[0; 4]], 24)
-    }))
+    identifiers.chain(isils().map(|isil| case("ISILs of every length", [b"X", isil.as_bytes(), &[0; 4]], 24)))
 }
 
 /// Good and bad elements in all ways together, with room and without: the order.

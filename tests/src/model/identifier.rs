@@ -35,13 +35,15 @@ fn elements_of(text: &[u8], isil_leads: bool) -> Result<[Vec<u8>; 3], u32> {
     let parts: Vec<&[u8]> = text.split(|byte| *byte == DOT).collect();
     // "then it is ISIL and identifier, with or without set information after; otherwise identifier, with or without it"
     let (isil, item, set) = match (isil_leads, &parts[..]) {
-        (true, [isil, item, set @ ..]) if set.len() <= 1 => (Some(*isil), *item, set.first()),
-        (false, [item, set @ ..]) if set.len() <= 1 => (None, *item, set.first()),
+        (true, [isil, item]) => (Some(*isil), *item, None),
+        (true, [isil, item, set]) => (Some(*isil), *item, Some(*set)),
+        (false, [item]) => (None, *item, None),
+        (false, [item, set]) => (None, *item, Some(*set)),
         _ => return Err(refusal::PARTS),
     };
     need(isil.is_none_or(|isil| is_good(ISIL, isil)) && is_identifier(item), refusal::FIELD)?;
     let set = match set {
-        Some(part) if *part == ELSEWHERE => return Err(refusal::BANK),
+        Some(part) if part == ELSEWHERE => return Err(refusal::BANK),
         Some(part) => from_digits(part).ok_or(refusal::FIELD)?,
         // "None means 0 and 0."
         None => set_information(0, 0),
