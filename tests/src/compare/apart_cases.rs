@@ -20,7 +20,7 @@ pub fn random(seed: u64, count: usize) -> impl Iterator<Item = Case> + Send {
     let mut random = Random::new(seed);
     (0..count).map(move |_| match random.below(8) {
         0 => {
-            let (length, isil_leads) = (random.below(20), random.pick(&LEADS));
+            let (length, isil_leads) = (random.below(20), identifiers::leads(&mut random));
             let among = random.pick(&[&b".S0123DK-a\xC3\xA9\0"[..], b"...31"]);
             let mut character = || if random.one_in(8) { random.byte() } else { random.pick(among) };
             let text = (0..length).map(|_| character()).collect();

@@ -42,9 +42,18 @@ pub struct Elements {
     pub right: Result<Vec<u8>, u32>,
 }
 
+/// No about half of the time.
+pub fn leads(random: &mut Random) -> u32 {
+    if random.one_in(2) {
+        0
+    } else {
+        random.pick(&LEADS)
+    }
+}
+
 /// A text of parts that are all good, or of which some are bad; seldom in a number that the caller's word does not allow.
 pub fn text(random: &mut Random) -> Text {
-    let (isil_leads, seldom) = (random.pick(&LEADS), random.pick(&[1000, 3, 2]));
+    let (isil_leads, seldom) = (leads(random), random.pick(&[1000, 3, 2]));
     let mut flawed = || random.one_in(seldom);
     let [bad_isil_part, bad_item_part, bad_set] = [flawed(), flawed(), flawed()];
     let isil_part = match isil_leads {
