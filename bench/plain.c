@@ -396,20 +396,21 @@ static int take_owner(const uint8_t *tag, size_t tag_len, struct fields *basic)
         && len > 2 && is_unit(field + 2, len - 2);
 }
 
-/* Takes the bytes up to a 00 or the end, and goes past that 00. */
-static struct span next_field(struct span *rest)
+/* Takes the bytes up to a separator or the end, and goes past that separator;
+   where there is none, rest->at is then null. */
+static struct span next_field(struct span *rest, uint8_t separator)
 {
     struct span field = *rest;
-    const uint8_t *zero = NULL;
+    const uint8_t *end = NULL;
 
     if (rest->len > 0)
-        zero = (const uint8_t *)memchr(rest->at, 0, rest->len);
-    if (zero == NULL) {
-        rest->len = 0;
+        end = (const uint8_t *)memchr(rest->at, separator, rest->len);
+    if (end == NULL) {
+        *rest = span_of(NULL, 0);
         return field;
     }
-    field.len = (size_t)(zero - field.at);
-    rest->at = zero + 1;
+    field.len = (size_t)(end - field.at);
+    rest->at = end + 1;
     rest->len -= field.len + 1;
     return field;
 }
@@ -425,8 +426,8 @@ static int take_block1(const uint8_t *block, struct fields *more)
         more->media = span_of(rest.at, 1);
     rest.at++;
     rest.len--;
-    more->item = next_field(&rest);
-    more->owner = next_field(&rest);
+    more->item = next_field(&rest, 0);
+    more->owner = next_field(&rest, 0);
     if (rest.len > 1)
         return 0;
     if (rest.len == 1)
@@ -493,9 +494,9 @@ static void settle(struct content *c, const uint8_t *tag,
 /* Takes a tag of good size apart: 3, 4, 15 to 19 with the place, 6, 7. The
    carried blocks count as one part of the tag only if chain says that they
    follow each other. */
-static uint32_t take_apart(const uint8_t *tag, size_t tag_len,
-                           struct content *c, struct chain *chain,
-                           size_t *place)
+static uint32_t take_tag(const uint8_t *tag, size_t tag_len,
+                         struct content *c, struct chain *chain,
+                         size_t *place)
 {
     struct fields basic, more;
     uint32_t damage;
@@ -614,7 +615,7 @@ uint32_t urp_read(const uint8_t *tag, size_t tag_len,
 
     if (!is_tag_size(tag_len))
         return URP_SIZE;
-    refusal = take_apart(tag, tag_len, &c, &chain, place);
+    refusal = take_tag(tag, tag_len, &c, &chain, place);
     if (refusal != URP_DONE)
         return refusal;
     measure(&c, &chain, &e);
@@ -886,7 +887,7 @@ uint32_t urp_edit(uint8_t *tag, size_t tag_len,
 
     if (!is_tag_size(tag_len) || !is_lock_map(locks, locks_len, tag_len))
         return URP_SIZE;
-    refusal = take_apart(tag, tag_len, &c, &chain, place);
+    refusal = take_tag(tag, tag_len, &c, &chain, place);
     if (refusal != URP_DONE)
         return refusal;
     if (!is_own_layout(tag, tag_len, &c, &chain, image))
@@ -1080,5 +1081,174 @@ uint32_t urp_text_to_words(const uint8_t *text, size_t text_len,
 
     put_words(words, text, text_len);
     *used = count;
+    return URP_DONE;
+}
+
+/* ---- the identifier of a UHF tag ---- */
+
+enum {
+    PARTS_MAX = 3,
+    DIGITS_MAX = 3  /* of a total, and of an ordinal */
+};
+
+/* Cuts an identifier at its dots and gives the count of its parts; above
+   PARTS_MAX they are not all there. */
+static size_t cut(struct span rest, struct span *parts)
+{
+    size_t count = 0;
+
+    do {
+        if (count == PARTS_MAX)
+            return PARTS_MAX + 1;
+        parts[count++] = next_field(&rest, '.');
+    } while (rest.at != NULL);
+    return count;
+}
+
+static int is_item(const uint8_t *bytes, size_t len)
+{
+    return len >= 1 && len <= URP_ITEM_MAX && is_text(bytes, len);
+}
+
+static int points_elsewhere(struct span part)
+{
+    return part.len == 1 && part.at[0] == 'S';
+}
+
+/* The count of digits for the total of a set, and for its ordinal. */
+static size_t digits_for(unsigned total)
+{
+    return total <= 9 ? 1 : total <= 99 ? 2 : DIGITS_MAX;
+}
+
+static int take_number(const uint8_t *digits, size_t len, unsigned *number)
+{
+    size_t i;
+
+    *number = 0;
+    for (i = 0; i < len; i++) {
+        if (digits[i] < '0' || digits[i] > '9')
+            return 0;
+        *number = 10 * *number + digits[i] - '0';
+    }
+    return 1;
+}
+
+/* Takes the digits of a total and of an ordinal into element 4. */
+static int take_set(struct span part, uint8_t *set)
+{
+    size_t len = part.len / 2;
+    unsigned total, ordinal;
+
+    if (part.len % 2 != 0 || len > DIGITS_MAX
+        || !take_number(part.at, len, &total)
+        || !take_number(part.at + len, len, &ordinal))
+        return 0;
+    if (total < 1 || total > 255 || digits_for(total) != len || ordinal > total)
+        return 0;
+    put_low_first(set, total);
+    put_low_first(set + 2, ordinal);
+    return 1;
+}
+
+/* Judges the parts, of which number item is the item identifier, and gives
+   element 4: 6, and 23, for which all before the S has to be good. */
+static uint32_t take_parts(const struct span *parts, size_t count, size_t item,
+                           uint8_t *set)
+{
+    if (item == 1 && !is_isil(parts[0].at, parts[0].len))
+        return URP_FIELD;
+    if (!is_item(parts[item].at, parts[item].len))
+        return URP_FIELD;
+    memset(set, 0, URP_SET_MAX);
+    if (count == item + 1)
+        return URP_DONE;
+    if (points_elsewhere(parts[item + 1]))
+        return URP_BANK;
+    return take_set(parts[item + 1], set) ? URP_DONE : URP_FIELD;
+}
+
+uint32_t urp_take_apart(const uint8_t *text, size_t text_len,
+                        uint32_t isil_leads,
+                        uint8_t *item, size_t item_len,
+                        uint8_t *isil, size_t isil_len,
+                        uint8_t *set, size_t set_len,
+                        size_t *item_used, size_t *isil_used,
+                        size_t *set_used)
+{
+    struct span parts[PARTS_MAX];
+    size_t lead = isil_leads != 0, owner_len;
+    size_t count = cut(span_of(text, text_len), parts);
+    uint8_t numbers[URP_SET_MAX];
+    uint32_t refusal;
+
+    if (count < lead + 1 || count > lead + 2)
+        return URP_PARTS;
+    refusal = take_parts(parts, count, lead, numbers);
+    if (refusal != URP_DONE)
+        return refusal;
+    owner_len = lead ? parts[0].len : 0;
+    if (item_len < parts[lead].len || isil_len < owner_len
+        || set_len < URP_SET_MAX)
+        return URP_ROOM;
+
+    memcpy(item, parts[lead].at, parts[lead].len);
+    if (owner_len > 0)
+        memcpy(isil, parts[0].at, owner_len);
+    memcpy(set, numbers, URP_SET_MAX);
+    *item_used = parts[lead].len;
+    *isil_used = owner_len;
+    *set_used = URP_SET_MAX;
+    return URP_DONE;
+}
+
+static uint8_t *put_bytes(uint8_t *at, const uint8_t *bytes, size_t len)
+{
+    memcpy(at, bytes, len);
+    return at + len;
+}
+
+static uint8_t *put_number(uint8_t *at, size_t digits, unsigned number)
+{
+    size_t i;
+
+    for (i = digits; i > 0; i--) {
+        at[i - 1] = (uint8_t)('0' + number % 10);
+        number /= 10;
+    }
+    return at + digits;
+}
+
+uint32_t urp_put_together(const uint8_t *item, size_t item_len,
+                          const uint8_t *isil, size_t isil_len,
+                          const uint8_t *set, size_t set_len,
+                          uint8_t *text, size_t text_len,
+                          size_t *used)
+{
+    size_t len = item_len, digits;
+
+    if (!is_item(item, item_len) || memchr(item, '.', item_len) != NULL
+        || (isil_len > 0 && !is_isil(isil, isil_len))
+        || !is_set(set, set_len))
+        return URP_VALUE;
+    digits = digits_for(set[0]);
+    if (isil_len > 0)
+        len += isil_len + 1;
+    if (set[0] > 0)
+        len += 1 + 2 * digits;
+    if (text_len < len)
+        return URP_ROOM;
+
+    if (isil_len > 0) {
+        text = put_bytes(text, isil, isil_len);
+        *text++ = '.';
+    }
+    text = put_bytes(text, item, item_len);
+    if (set[0] > 0) {
+        *text++ = '.';
+        text = put_number(text, digits, set[0]);
+        put_number(text, digits, set[2]);
+    }
+    *used = len;
     return URP_DONE;
 }

@@ -1,11 +1,12 @@
-/* urpanella.h: RFID tags of libraries (ISO 28560-3, and the words of UHF tags
-   after ISO/TS 28560-4), for hosts in C and C++.
+/* urpanella.h: RFID tags of libraries (ISO 28560-3, and the identifier of UHF
+   tags after ISO/TS 28560-4), for hosts in C and C++.
 
    Three calls for tags: urp_read takes a tag apart into a sheet of elements,
    urp_write lays a sheet out on a tag, urp_edit changes one element on a tag.
-   Two for the identifier of a UHF tag: urp_words_to_text reads its words,
-   urp_text_to_words makes them. Radio commands and the choice of pages to lock
-   are the host's.
+   Four for the identifier of a UHF tag: urp_words_to_text reads its words into
+   text, urp_text_to_words makes them of it; urp_take_apart takes the text apart
+   into elements, urp_put_together makes it of them. Radio commands and the
+   choice of pages to lock are the host's.
 
    TAG AND LOCK MAP
    A tag has 32 bytes, or a multiple of 4 from 36 to 2,048. A page is 4 bytes.
@@ -93,6 +94,32 @@
    order the bank has its two bytes. A host that gets bytes makes the numbers
    first.
 
+   UHF IDENTIFIER
+   The text of the identifier has parts, with a dot between two of them: an ISIL
+   or none, the item identifier, and set information or none. They are elements
+   3, 1 and 4. Every dot divides, so an item identifier has none here.
+   No text says whether an ISIL leads. The caller does, and that alone decides:
+   DK-1.31 is the ISIL DK-1 and the item identifier 31 where one leads, and the
+   item identifier DK-1, ordinal 1 of a total of 3, where none does.
+   Set information is digits: the total, which element 4 calls its parts, then
+   the ordinal, in the same count of digits, leading zeros kept.
+       two digits   total 1 to 9       31       ordinal 1 of 3
+       four         10 to 99           1207     ordinal 7 of 12
+       six          100 to 255         120007   ordinal 7 of 120
+   The ordinal is at most the total, and may be 0. The total alone decides how
+   many digits there are: 00, 0301 and 012007 are no set information. Where the
+   part is left out both numbers are 0, and element 4 is 00 00 00 00.
+   A single S in place of set information points to another bank of the tag.
+   That is refused with 23. A host that has read the other bank takes the text
+   apart without its last two characters, and puts in element 4 itself.
+   The item identifier has at most 255 bytes, and TEXT says what they may be: so
+   bytes from 80 hex on pass where they are UTF-8, though no words can be made
+   of them. What is put together comes apart into the same three elements, an
+   ISIL leading where 3 is not empty; what was taken apart, put together, is the
+   same text again. A sheet made of them needs element 5 too.
+   So CH-000134-1.12345678.31 is, where an ISIL leads, 3 CH-000134-1, 1 12345678
+   and 4 03 00 01 00, ordinal 1 of 3; where none does, it has a part too many.
+
    OF EVERY CALL
    The answer is 0 when the work is done, else the number of the refusal, one of
    those below. The conditions are tested in the order that is given with the
@@ -105,8 +132,8 @@
    tag_len. At every other answer, 0 among them, it is as it was.
    A length counts bytes, or words where the buffer is of uint16_t. A length of
    0 means none, and the pointer beside it may then be null. A length is never
-   more than what the buffer has. The results (used, pages, old_used, place) are
-   never null.
+   more than what the buffer has. The results (used, pages, place, and each that
+   ends in _used) are never null.
    The buffers and results of one call are separate: none overlaps another.
    Nothing is kept from one call to the next and nothing is allocated, so calls
    on different buffers may run at the same time.
@@ -138,6 +165,13 @@ extern "C" {
 #define URP_SHEET_MAX 8192
 #define URP_OLD_MAX 255
 
+/* Sizes that always suffice for elements 1, 3 and 4 of a UHF tag's identifier,
+   and for its text: 16 and 255 bytes, 6 digits and 2 dots. */
+#define URP_ITEM_MAX 255
+#define URP_ISIL_MAX 16
+#define URP_SET_MAX 4
+#define URP_IDENTIFIER_MAX 279
+
 /* Bytes of stack for any call, with some to spare: measured over some hundred
    thousand calls on x86-64, and not proved. docs/FIGURES.md has each call's. */
 #define URP_STACK_MAX 10240
@@ -156,15 +190,17 @@ extern "C" {
 #define URP_DONE 0
 #define URP_SIZE 1      /* tag length; or a lock map that has not one byte for
                            each page, or a byte above 1 */
-#define URP_ROOM 2      /* buffer for the sheet, text or words too short, or
-                           old-element buffer under 255 bytes */
+#define URP_ROOM 2      /* buffer for the sheet, text, words or an element too
+                           short, or old-element buffer under 255 bytes */
 #define URP_CONTENT 3   /* content parameter not 1 */
 #define URP_CHECK 4     /* CRC differs */
 #define URP_FIELD 6     /* a field breaks its form, or the tag has an ordinal
-                           above its parts */
+                           above its parts; a part of a UHF tag's identifier
+                           breaks its form */
 #define URP_MISMATCH 7  /* usage, marker and block 1 disagree */
 #define URP_SHEET 8     /* header, order, offsets or end of the sheet wrong */
-#define URP_VALUE 9     /* unknown number, bad value, 4 or 5 missing */
+#define URP_VALUE 9     /* unknown number, bad value, 4 or 5 missing; a dot in
+                           the item identifier of a UHF tag */
 #define URP_CLASH 10    /* two elements clash */
 #define URP_LARGE 11    /* no layout in this tag or in block 1 */
 #define URP_LOCKED 12   /* a locked page would get other bytes */
@@ -183,6 +219,10 @@ extern "C" {
 /* UHF words. */
 #define URP_WORD 20       /* reading: a word with no meaning */
 #define URP_CHARACTER 21  /* writing: a character above 7F hex */
+
+/* The text of a UHF tag's identifier. */
+#define URP_PARTS 22  /* too few or too many parts */
+#define URP_BANK 23   /* S: the set information is in another bank */
 
 /* Is this an answer that comes with a place, one of 15 to 19? The argument is
    evaluated once. */
@@ -266,6 +306,46 @@ uint32_t urp_words_to_text(const uint16_t *words, size_t words_len,
 uint32_t urp_text_to_words(const uint8_t *text, size_t text_len,
                            uint16_t *words, size_t words_len,
                            size_t *used);
+
+/* Takes the text of a UHF tag's identifier apart into elements.
+   Takes   text[0 .. text_len): the text. It is only read.
+           isil_leads: 0 if no ISIL leads, any other number if one does.
+           item[0 .. item_len), isil[0 .. isil_len), set[0 .. set_len): room
+           for elements 1, 3 and 4; URP_ITEM_MAX, URP_ISIL_MAX and URP_SET_MAX
+           always suffice, and room for exactly each is enough: none for
+           element 3 where no ISIL leads, 4 bytes for element 4 always.
+   Done    item[0 .. *item_used) is element 1, isil[0 .. *isil_used) element 3,
+           *isil_used being 0 where no ISIL leads, and set[0 .. *set_used)
+           element 4, *set_used being 4. The bytes of the buffers from there on
+           are as they were.
+   Refuses 22 6 23 2, in this order. 22: where an ISIL leads there are not 2 or
+           3 parts, else not 1 or 2; text_len 0 is one empty part. 6: the ISIL
+           is none; the item identifier is empty, has more than 255 bytes or
+           breaks TEXT; or set information is neither S nor as it has to be.
+           2: one of the three buffers is too short, and none is filled. */
+uint32_t urp_take_apart(const uint8_t *text, size_t text_len,
+                        uint32_t isil_leads,
+                        uint8_t *item, size_t item_len,
+                        uint8_t *isil, size_t isil_len,
+                        uint8_t *set, size_t set_len,
+                        size_t *item_used, size_t *isil_used,
+                        size_t *set_used);
+
+/* Puts elements together to the text of a UHF tag's identifier.
+   Takes   item[0 .. item_len): element 1, at most 255 bytes, with no dot.
+           isil[0 .. isil_len): element 3; isil_len 0 means no ISIL.
+           set[0 .. set_len): element 4, which is 4 bytes; 00 00 00 00 gives no
+           set information. The three are only read.
+           text[0 .. text_len): room for the text; URP_IDENTIFIER_MAX always
+           suffices, and room for exactly the text is enough.
+   Done    text[0 .. *used) is the text and *used its length; the bytes of the
+           buffer from there on are as they were. No S is ever written.
+   Refuses 9 2, in this order. */
+uint32_t urp_put_together(const uint8_t *item, size_t item_len,
+                          const uint8_t *isil, size_t isil_len,
+                          const uint8_t *set, size_t set_len,
+                          uint8_t *text, size_t text_len,
+                          size_t *used);
 
 #ifdef __cplusplus
 }

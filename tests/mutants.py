@@ -110,6 +110,25 @@ BY_HAND = [
     ('words.rs', 'run.chunks(3).map(packed).collect()', 'run.chunks(3).chain((run.len() % 3 == 0).then_some(&[][..])).map(packed).collect()'),
     ('words.rs', 'run.chunks(3).map(packed).collect()', 'run.rchunks(3).rev().map(packed).collect()'),
     ('words.rs', 'text.is_ascii(), refusal::HIGH', 'text.first().is_none_or(u8::is_ascii), refusal::HIGH'),
+    # Taking apart: a yes that is 1 or a byte; a guess; 23 before 6, and for more than S; 2 first; 00, an empty part and leading zeros taken.
+    ('identifier.rs', 'isil_leads != 0', 'isil_leads == 1'),
+    ('identifier.rs', 'isil_leads != 0', 'isil_leads as u8 != 0'),
+    ('identifier.rs', 'isil_leads != 0', 'text.split(|byte| *byte == DOT).next().is_some_and(|part| is_good(ISIL, part))'),
+    ('identifier.rs', 'need(isil.is_none_or(', 'need(set == Some(ELSEWHERE) || isil.is_none_or('),
+    ('identifier.rs', 'Some(part) if part == ELSEWHERE', 'Some(part) if part.eq_ignore_ascii_case(ELSEWHERE)'),
+    ('identifier.rs', 'Some(part) if part == ELSEWHERE', 'Some(part) if part.starts_with(ELSEWHERE)'),
+    ('identifier.rs', 'Some(part) if part == ELSEWHERE', 'Some(part) if part.ends_with(ELSEWHERE)'),
+    ('identifier.rs', 'let elements = elements_of', 'need(buffers[2].len() >= 4, refusal::ROOM)?;\n    let elements = elements_of'),
+    ('identifier.rs', 'Some(part) => from_digits', 'Some([]) | Some(b"00") => set_information(0, 0),\n        Some(part) => from_digits'),
+    ('identifier.rs', 'totals.contains(&total) && ', 'total > 0 && total < 256 && '),
+    ('identifier.rs', '(number(total)?, number(ordinal)?)', '(number(total)? % 256, number(ordinal)?)'),
+    ('identifier.rs', 'char::from(*digit).to_digit(10)?', 'u32::from(*digit & 15)'),
+    # Building: a dot taken; an ISIL wanted; empty as none; limits that count characters; leading zeros lost.
+    ('identifier.rs', ' && !item.contains(&DOT)', ''),
+    ('identifier.rs', 'isil.is_empty() || ', ''),
+    ('identifier.rs', 'is_good(SET, set), ', 'set.is_empty() || is_good(SET, set), '),
+    ('identifier.rs', 'item.len() <= 255', 'String::from_utf8_lossy(item).chars().count() <= 255'),
+    ('identifier.rs', '{ordinal:0width$}', '{ordinal}'),
 ]
 
 # Changes that leave the model right: file, a part of the changed line, why no input tells them apart.
@@ -208,7 +227,7 @@ class Workplace:
         self.folder = WORK / str(number)
         self.tests = self.folder / 'tests'
         self.runs = [('read', '0', driver), ('write', '0', driver), ('edit', '0', driver), ('to_text', '0', driver), ('to_words', '0', driver),
-                     ('histories', '100', driver), ('taglist', '0', [str(ROOT / 'build' / 'taglist')])]
+                     ('apart', '0', driver), ('together', '0', driver), ('histories', '100', driver), ('taglist', '0', [str(ROOT / 'build' / 'taglist')])]
         shutil.rmtree(self.tests, ignore_errors=True)
         shutil.copytree(TESTS, self.tests)
         self.environment = dict(os.environ, CARGO_TARGET_DIR=str(self.folder / 'target'), CARGO_PROFILE_DEV_OPT_LEVEL='1', CARGO_PROFILE_DEV_DEBUG='0')

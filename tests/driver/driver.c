@@ -1,13 +1,14 @@
 /* Runs a library with the interface of urpanella.h on cases from standard input.
 
-   A case: the call (1 read, 2 write, 3 edit, 4 words to text, 5 text to words), a byte of flags (bit k below 4: buffer
-   k, where it has no bytes, is passed as a null pointer; bit 7: the side of the guard page), the element number (4
-   bytes), the length of each buffer in bytes (4 bytes each), the bytes of each buffer. Buffers come in the order of the
-   call's parameters. Words are two bytes each, low byte first, which is how the machines here hold them.
+   A case: the call (1 read, 2 write, 3 edit, 4 words to text, 5 text to words, 6 take apart, 7 put together), a byte of
+   flags (bit k below 4: buffer k, where it has no bytes, is passed as a null pointer; bit 7: the side of the guard page),
+   the element number, or whether an ISIL leads (4 bytes), the length of each buffer in bytes (4 bytes each), the bytes of
+   each buffer. Buffers come in the order of the call's parameters. Words are two bytes each, low byte first, which is how
+   the machines here hold them.
 
    An outcome: the answer (4 bytes), then each result and each buffer as it is afterwards, after the canary bytes that
-   stand beside it. Results (used, pages, old_used, place) come in the order of the call's parameters too. Numbers are
-   low byte first. A result is preset, so that one left alone is seen.
+   stand beside it. Results (used, pages, old_used, place; item_used, isil_used, set_used) come in the order of the call's
+   parameters too. Numbers are low byte first. A result is preset, so that one left alone is seen.
 
    A sweep: a case of reading, writing or editing with 64 added to the call, and behind the bytes of its buffers a place
    (4 bytes). There, in the buffer that is judged (the tag, the sheet, the new bytes), two bytes run through all 65,536
@@ -46,7 +47,7 @@ extern int memcmp(const void *, const void *, size_t);
 
 #include "urpanella.h"
 
-enum { READ = 1, WRITE = 2, EDIT = 3, TO_TEXT = 4, TO_WORDS = 5 };
+enum { READ = 1, WRITE = 2, EDIT = 3, TO_TEXT = 4, TO_WORDS = 5, APART = 6, TOGETHER = 7 };
 enum { MOST_BUFFERS = 4, MOST_RESULTS = 3, PLACES = MOST_BUFFERS + MOST_RESULTS };
 enum { CANARY = 32, PRESET = 0xA5 };
 enum { BEHIND_GUARD = 0x80 };
@@ -194,7 +195,7 @@ static size_t *placed_result(int place, uint8_t flags)
 /* What each call has: buffers, results, and the buffer that is of words, if there is one. */
 static const struct {
     int buffers, results, of_words;
-} calls[] = {{0, 0, -1}, {2, 2, -1}, {3, 1, -1}, {4, 3, -1}, {2, 1, 0}, {2, 1, 1}};
+} calls[] = {{0, 0, -1}, {2, 2, -1}, {3, 1, -1}, {4, 3, -1}, {2, 1, 0}, {2, 1, 1}, {4, 3, -1}, {4, 1, -1}};
 
 struct work {
     uint8_t call;
@@ -217,7 +218,7 @@ static void take_work(struct work *w)
     w->number = take_number();
     w->is_sweep = (w->call & SWEEP) != 0;
     w->call &= ~SWEEP;
-    if (w->call < READ || w->call > (w->is_sweep ? EDIT : TO_WORDS))
+    if (w->call < READ || w->call > (w->is_sweep ? EDIT : TOGETHER))
         stop("driver: a call that does not exist\n");
     w->buffers = calls[w->call].buffers;
     w->results = calls[w->call].results;
@@ -251,6 +252,10 @@ static uint32_t run(const struct work *w)
         return urp_words_to_text((const uint16_t *)(void *)b[0], n[0] / 2, b[1], n[1], r[0]);
     case TO_WORDS:
         return urp_text_to_words(b[0], n[0], (uint16_t *)(void *)b[1], n[1] / 2, r[0]);
+    case APART:
+        return urp_take_apart(b[0], n[0], w->number, b[1], n[1], b[2], n[2], b[3], n[3], r[0], r[1], r[2]);
+    case TOGETHER:
+        return urp_put_together(b[0], n[0], b[1], n[1], b[2], n[2], b[3], n[3], r[0]);
     default:
         return urp_edit(b[0], n[0], b[1], n[1], w->number, b[2], n[2], b[3], n[3], r[0], r[1], r[2]);
     }

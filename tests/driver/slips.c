@@ -32,11 +32,11 @@
 #define EMPTY_WORD 26      /* text into words: a word of pads at the end, where nothing is left */
 #define SEVEN_BITS 27      /* text into words: the high bit is dropped, and not refused */
 #define STORED_FIRST 28    /* both: what stands before a bad word or byte is stored, and then it is found */
-#define ROOM_FIRST 29      /* both: 2 before 20 and 21 */
-#define ROOM_LESS 30       /* both: just the room is not enough */
-#define ROOM_MORE 31       /* both: one less than the room is enough */
-#define MOST_ROOM 32       /* both: room is wanted for the longest output of so many words or characters */
-#define USED_TOUCHED 33    /* both: a refusal sets the count */
+#define ROOM_FIRST 29      /* words, identifiers: 2 before 20, 21, 22 and 9 */
+#define ROOM_LESS 30       /* words, identifiers: just the room is not enough */
+#define ROOM_MORE 31       /* words, identifiers: one less than the room is enough */
+#define MOST_ROOM 32       /* words, identifiers: room is wanted for the longest output that there could be */
+#define USED_TOUCHED 33    /* words, identifiers: a refusal sets a count */
 #define LONG_FORMS 34      /* text: characters in a longer form than they need, as C0 AF */
 #define SURROGATES 35      /* text: ED A0 80 and the like */
 #define ABOVE_10FFFF 36    /* text: F4 90 80 80 and the like */
@@ -48,6 +48,22 @@
 #define ONE_REFUSED 42     /* text: the three bytes C2 A9 7A are refused */
 #define LOOKS_BEHIND 43    /* text: the byte behind a character that the end cuts is looked at */
 #define CHARACTERS 44      /* editing: the limits of an identifier count characters */
+#define GUESSED 45         /* taking apart: whether an ISIL leads is guessed from the form */
+#define BYTE_OF_FLAG 46    /* taking apart: 256 says that no ISIL leads */
+#define SET_WANTED 47      /* taking apart: an identifier without set information is refused */
+#define NONE_IS_EMPTY 48   /* taking apart: no set part gives an empty element 4 */
+#define NONE_AS_00 49      /* taking apart: 00 is set information */
+#define EMPTY_SET 50       /* taking apart: nothing behind the last dot is no set part */
+#define NINE_IN_FOUR 51    /* taking apart: a total up to 9 in four digits is taken */
+#define WRAPPED 52         /* taking apart: 260004 is a set of 4 */
+#define ORDINAL_ABOVE 53   /* taking apart: an ordinal above its total is taken */
+#define SMALL_S 54         /* taking apart: s is S */
+#define S_ANYWHERE 55      /* taking apart: S in the identifier's place is 23 */
+#define BANK_FIRST 56      /* taking apart: 23 before 6 */
+#define ONE_FILLED 57      /* taking apart: where the room for element 4 is short, the others are filled */
+#define DOT_TAKEN 58       /* putting together: a dot in an identifier is taken */
+#define EMPTY_IS_NONE 59   /* putting together: an empty element 4 is 0 and 0 */
+#define WRITES_00 60       /* putting together: 0 and 0 is written as 00 */
 
 uint32_t plain_read(const uint8_t *, size_t, uint8_t *, size_t, size_t *, size_t *);
 uint32_t plain_write(const uint8_t *, size_t, uint8_t *, size_t, const uint8_t *, size_t, size_t *);
@@ -55,6 +71,10 @@ uint32_t plain_edit(uint8_t *, size_t, const uint8_t *, size_t, uint32_t, const 
                     size_t *, size_t *, size_t *);
 uint32_t plain_words_to_text(const uint16_t *, size_t, uint8_t *, size_t, size_t *);
 uint32_t plain_text_to_words(const uint8_t *, size_t, uint16_t *, size_t, size_t *);
+uint32_t plain_take_apart(const uint8_t *, size_t, uint32_t, uint8_t *, size_t, uint8_t *, size_t, uint8_t *, size_t,
+                          size_t *, size_t *, size_t *);
+uint32_t plain_put_together(const uint8_t *, size_t, const uint8_t *, size_t, const uint8_t *, size_t, uint8_t *, size_t,
+                            size_t *);
 int plain_is_text(const uint8_t *, size_t);
 
 static volatile uint8_t looked_at;
@@ -91,7 +111,7 @@ static uint32_t misplaced(uint32_t answer, const uint8_t *tag, size_t tag_len, s
 /* What a call of plain.c is given instead of what was lent, so that it does what the slip would. */
 enum { MOST = 1 << 18 };
 static uint16_t other_words[MOST];
-static uint8_t other_text[MOST], other_value[MOST];
+static uint8_t other_text[MOST], other_value[MOST], other_identifier[MOST];
 
 static int begins(const uint8_t *at, size_t left, unsigned first, unsigned second, unsigned third)
 {
@@ -265,7 +285,7 @@ static size_t mistake_text(const uint8_t *text, size_t text_len)
     return begun;
 }
 
-/* The room that a slip of both calls believes in, where most is what the longest output takes. */
+/* The room that a slip believes in, where most is what the longest output takes. */
 static size_t believed(size_t room, size_t most)
 {
     if (SLIP == ROOM_LESS && room > 0)
@@ -300,6 +320,145 @@ uint32_t urp_text_to_words(const uint8_t *text, size_t text_len, uint16_t *words
         plain_text_to_words(text, 1, words, words_len, &other);
     if (SLIP == EMPTY_WORD && answer == URP_DONE && text_len > 0 && begun == 0 && *used < words_len)
         words[(*used)++] = 1;
+    if (SLIP == USED_TOUCHED && answer != URP_DONE)
+        *used = 0;
+    return answer;
+}
+
+static size_t parts_in(const uint8_t *text, size_t text_len)
+{
+    size_t i, count = 1;
+    for (i = 0; i < text_len; i++)
+        count += text[i] == '.';
+    return count;
+}
+
+/* Where the last part begins. */
+static size_t last_part(const uint8_t *text, size_t text_len)
+{
+    size_t at = text_len;
+    while (at > 0 && text[at - 1] != '.')
+        at--;
+    return at;
+}
+
+/* Capitals and then a hyphen, as an ISIL begins. */
+static int begins_as_isil(const uint8_t *text, size_t text_len)
+{
+    size_t i = 0;
+    while (i < text_len && text[i] >= 'A' && text[i] <= 'Z')
+        i++;
+    return i > 0 && i < text_len && text[i] == '-';
+}
+
+static int are_digits(const uint8_t *bytes, size_t len)
+{
+    size_t i = 0;
+    while (i < len && bytes[i] >= '0' && bytes[i] <= '9')
+        i++;
+    return i == len;
+}
+
+/* Makes two digits of four or six, where the slip takes their total for one below 10; gives their count. */
+static size_t in_two_digits(uint8_t *set, size_t len)
+{
+    unsigned total = len == 6 ? (set[0] - '0') * 100u + (set[1] - '0') * 10u + (set[2] - '0') : 0;
+    if (SLIP == NINE_IN_FOUR && len == 4 && set[0] == '0' && set[2] == '0')
+        set[0] = set[1];
+    else if (SLIP == WRAPPED && total > 256 && total < 266 && set[3] == '0' && set[4] == '0')
+        set[0] = (uint8_t)('0' + total - 256);
+    else
+        return len;
+    set[1] = set[len - 1];
+    return 2;
+}
+
+/* Makes an ordinal that is above its total the total. */
+static void lower_ordinal(uint8_t *set, size_t half)
+{
+    size_t i, k = 0;
+    while (k < half && set[k] == set[half + k])
+        k++;
+    for (i = k; k < half && set[k] < set[half + k] && i < half; i++)
+        set[half + i] = set[i];
+}
+
+/* Puts the text as the slip takes it, with or without set information in its last part, and gives its length. */
+static size_t mistake_identifier(const uint8_t *text, size_t text_len, int has_set)
+{
+    size_t i, at = last_part(text, text_len), len = text_len - at;
+    uint8_t *set = other_identifier + at;
+    for (i = 0; i < text_len; i++)
+        other_identifier[i] = text[i];
+    if (!has_set)
+        return text_len;
+    if ((SLIP == EMPTY_SET && len == 0) || (SLIP == NONE_AS_00 && len == 2 && set[0] == '0' && set[1] == '0'))
+        return at - 1;
+    if (SLIP == SMALL_S && len == 1 && set[0] == 's')
+        set[0] = 'S';
+    if (!are_digits(set, len))
+        return text_len;
+    if (SLIP == ORDINAL_ABOVE && len % 2 == 0)
+        lower_ordinal(set, len / 2);
+    return at + in_two_digits(set, len);
+}
+
+uint32_t urp_take_apart(const uint8_t *text, size_t text_len, uint32_t isil_leads, uint8_t *item, size_t item_len,
+                        uint8_t *isil, size_t isil_len, uint8_t *set, size_t set_len, size_t *item_used,
+                        size_t *isil_used, size_t *set_used)
+{
+    uint32_t answer, leads = SLIP == BYTE_OF_FLAG ? isil_leads & 0xFF : isil_leads;
+    size_t count = parts_in(text, text_len), at = last_part(text, text_len), other[3];
+    int is_s = text_len - at == 1 && text[at] == 'S', has_set;
+    if (SLIP == GUESSED)
+        leads = (uint32_t)begins_as_isil(text, text_len);
+    has_set = count == 2 + (size_t)(leads != 0);
+    if (SLIP == SET_WANTED && !has_set)
+        return URP_PARTS;
+    if (SLIP == BANK_FIRST && has_set && is_s)
+        return URP_BANK;
+    text_len = mistake_identifier(text, text_len, has_set);
+    if (SLIP == NONE_IS_EMPTY && !has_set) {
+        set = other_value;
+        set_len = 4;
+    }
+    answer = plain_take_apart(other_identifier, text_len, leads, item, believed(item_len, 255), isil,
+                              believed(isil_len, 16), set, believed(set_len, 4), item_used, isil_used, set_used);
+    if (SLIP == NONE_IS_EMPTY && !has_set && answer == URP_DONE)
+        *set_used = 0;
+    if (SLIP == S_ANYWHERE && answer == URP_DONE && is_s)
+        return URP_BANK;
+    if (SLIP == ROOM_FIRST && answer == URP_PARTS && set_len < 4)
+        return URP_ROOM;
+    if (SLIP == ONE_FILLED && answer == URP_ROOM)
+        plain_take_apart(text, text_len, leads, item, item_len, isil, isil_len, other_value, 4, other, other + 1,
+                         other + 2);
+    if (SLIP == USED_TOUCHED && answer != URP_DONE)
+        *isil_used = 0;
+    return answer;
+}
+
+uint32_t urp_put_together(const uint8_t *item, size_t item_len, const uint8_t *isil, size_t isil_len,
+                          const uint8_t *set, size_t set_len, uint8_t *text, size_t text_len, size_t *used)
+{
+    static const uint8_t none[4];
+    uint32_t answer;
+    size_t i;
+    for (i = 0; i < item_len; i++)
+        other_identifier[i] = SLIP == DOT_TAKEN && item[i] == '.' ? ',' : item[i];
+    if (SLIP == EMPTY_IS_NONE && set_len == 0) {
+        set = none;
+        set_len = sizeof none;
+    }
+    answer = plain_put_together(other_identifier, item_len, isil, isil_len, set, set_len, text, believed(text_len, 279),
+                                used);
+    if (SLIP == WRITES_00 && answer == URP_DONE && set[0] == 0 && text_len - *used >= 3) {
+        text[(*used)++] = '.';
+        text[(*used)++] = '0';
+        text[(*used)++] = '0';
+    }
+    if (SLIP == ROOM_FIRST && answer == URP_VALUE && text_len < item_len)
+        return URP_ROOM;
     if (SLIP == USED_TOUCHED && answer != URP_DONE)
         *used = 0;
     return answer;

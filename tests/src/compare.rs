@@ -1,5 +1,6 @@
 //! The comparison of a library, or of `taglist`, with the model on many cases.
 
+pub mod apart_cases;
 pub mod arguments;
 pub mod case;
 pub mod changed_cases;
@@ -14,6 +15,7 @@ pub mod taglist;
 pub mod text_cases;
 pub mod to_text_cases;
 pub mod to_words_cases;
+pub mod together_cases;
 pub mod torn_cases;
 pub mod write_cases;
 
@@ -30,6 +32,8 @@ pub fn run(arguments: &Arguments) -> Result<String, String> {
         Subject::Edit => vec![boxed(edit_cases::all(seed, count))],
         Subject::ToText => vec![boxed(to_text_cases::all(seed, count))],
         Subject::ToWords => vec![boxed(to_words_cases::all(seed, count))],
+        Subject::Apart => vec![boxed(apart_cases::all(seed, count))],
+        Subject::Together => vec![boxed(together_cases::all(seed, count))],
         Subject::Texts => return text_cases::compare(program, seed, count),
         Subject::Histories => vec![Box::new(history_cases::all(seed, count))],
         Subject::Torn => shared(seed, count, torn_cases::all),

@@ -2,6 +2,7 @@
 
 pub mod damaged;
 pub mod edits;
+pub mod identifiers;
 pub mod locks;
 pub mod sheets;
 pub mod tags;

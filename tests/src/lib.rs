@@ -1,11 +1,11 @@
-//! The independent program: document 01 and requests E1, E2 and E4 of document 02 written down a second time, from the
+//! The independent program: document 01 and requests E1, E2, E4 and E5 of document 02 written down a second time, from the
 //! papers alone.
 //!
-//! - [`model`]: the reader, the writer, the editor, the listing, and UHF words.
+//! - [`model`]: the reader, the writer, the editor, the listing, UHF words, and the UHF identifier.
 //! - [`build`], [`examples`]: bytes put together by hand, and the cases that the papers print.
 //! - [`alphabets`]: every byte in every field.
 //! - [`trial`]: the calls as the tests make them.
-//! - [`random`], [`generate`]: whole, loose and damaged sheets, tags, lock maps, edits, words and texts from a seed.
+//! - [`random`], [`generate`]: whole, loose and damaged sheets, tags, lock maps, edits, words, texts and identifiers from a seed.
 //! - [`history`]: many edits of one tag, and the way back.
 //! - [`compare`]: runs a library, through the C driver, on such cases and compares every answer and every byte.
 

@@ -1,4 +1,4 @@
-//! Document 01's rules, and requests E1, E2 and E4 of document 02, each in one place. The calls work on lent bytes and words,
+//! Document 01's rules, and requests E1, E2, E4 and E5 of document 02, each in one place. The calls work on lent bytes and words,
 //! as the library's do.
 //!
 //! What a later request changes stands alone: the page size in [`pages`], the list of element numbers in [`element`].
@@ -10,6 +10,7 @@ pub mod crc;
 pub mod editing;
 pub mod element;
 pub mod fields;
+pub mod identifier;
 pub mod isil;
 pub mod layout;
 pub mod listing;
@@ -23,6 +24,7 @@ pub mod writing;
 
 pub use content::Content;
 pub use editing::{editing, Edited};
+pub use identifier::{put_together, take_apart};
 pub use listing::listing;
 pub use reading::reading;
 pub use refusal::Refusal;

@@ -184,6 +184,30 @@ pub fn to_words(text: &[u8]) -> Result<Vec<u16>, u32> {
     to_words_into(text, text.len() + 1)
 }
 
+/// Elements 1, 3 and 4 of the text, into buffers of these lengths.
+pub fn apart_into(text: &[u8], isil_leads: u32, rooms: [usize; 3]) -> Result<[Vec<u8>; 3], u32> {
+    let done = numbered(Call::apart(text.to_vec(), isil_leads, rooms.map(unlike_anything)))?;
+    assert_eq!(done.buffers[0], text, "a text that was taken apart has changed");
+    Ok(std::array::from_fn(|place| filled_part(&done.buffers[place + 1], done.results[place])))
+}
+
+/// Elements 1, 3 and 4 of the text.
+pub fn apart(text: &[u8], isil_leads: bool) -> Result<[Vec<u8>; 3], u32> {
+    apart_into(text, u32::from(isil_leads), [256, 17, 5])
+}
+
+/// The text of elements 1, 3 and 4, into a buffer of this length.
+pub fn together_into(elements: [&[u8]; 3], room: usize) -> Result<Vec<u8>, u32> {
+    let done = numbered(Call::together(elements.map(<[u8]>::to_vec), unlike_anything(room)))?;
+    assert_eq!(done.buffers[..3], elements, "elements that were put together have changed");
+    Ok(filled_part(&done.buffers[3], done.results[0]))
+}
+
+/// The text of elements 1, 3 and 4.
+pub fn together(item: &[u8], isil: &[u8], set: &[u8]) -> Result<Vec<u8>, u32> {
+    together_into([item, isil, set], 280)
+}
+
 /// A sheet of these entries besides 4 (1 of 1) and 5 (main qualifier 1), each at its place.
 pub fn sheet_with(entries: &[(u8, &[u8])]) -> Vec<u8> {
     let mut all = [&[(4, &[1, 0, 1, 0][..]), (5, &[0x10])], entries].concat();

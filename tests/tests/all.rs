@@ -15,5 +15,6 @@ mod requests_e01;
 mod requests_e02;
 mod requests_e03;
 mod requests_e04;
+mod requests_e05;
 mod round_trips;
 mod slips;

@@ -4,7 +4,8 @@ use independent::compare::arguments::{parse, Subject};
 use independent::compare::case::{in_bytes, Call, Case, Placing, PRESET};
 use independent::compare::engine::{collect, shared};
 use independent::compare::{
-    changed_cases, edit_cases, read_cases, run, sweep, taglist, to_text_cases, to_words_cases, torn_cases, write_cases,
+    apart_cases, changed_cases, edit_cases, read_cases, run, sweep, taglist, to_text_cases, to_words_cases,
+    together_cases, torn_cases, write_cases,
 };
 use independent::examples::{b2, TEXT, WORDS};
 use independent::generate::locks;
@@ -45,6 +46,8 @@ fn a_program_that_stops_or_prints_otherwise_is_seen() {
     assert!(complaint("texts 1 2 true").contains("the driver stopped at a sweep from read tag=1101016161"));
     assert!(complaint("to_text 1 2 true").contains("the driver stopped"));
     assert!(complaint("to_words 1 2 true").contains("the driver stopped"));
+    assert!(complaint("apart 1 2 true").contains("the driver stopped"));
+    assert!(complaint("together 1 2 true").contains("the driver stopped"));
     assert!(complaint("changed 1 2 true").contains("the driver stopped"));
     assert!(complaint("faults 1 2 false").starts_with("faults, torn writes: compare: the driver stopped"));
     assert!(complaint("taglist 1 0 cat").contains("instead of \"elements 4"));
@@ -144,6 +147,26 @@ fn words_are_framed_low_byte_first_and_told_as_the_papers_print_them() {
 }
 
 #[test]
+fn identifiers_are_framed_with_what_the_caller_says_and_told_with_it() {
+    let placing = Placing { null: false, behind_guard: false };
+    let call = Call::apart(b"A.B".to_vec(), 0x0102_0304, [vec![7], vec![8, 9], vec![]]);
+    let lengths = [3, 0, 0, 0, 1, 0, 0, 0, 2, 0, 0, 0, 0, 0, 0, 0];
+    assert_eq!(call.frame(placing), [&[6, 0, 4, 3, 2, 1], &lengths[..], b"A.B", &[7, 8, 9]].concat());
+    assert_eq!(call.describe(), "apart isil_leads=16909060 text=412E42 item[1] isil[2] set[0]");
+    let done = Call::apart(TEXT.to_vec(), 1, [vec![0; 9], vec![0; 11], vec![7; 5]]).outcome();
+    assert_eq!((done.answer, &done.results[..]), (0, &[8, 11, 4][..]));
+    assert_eq!(done.buffers[1..], [b"12345678\0".to_vec(), b"CH-000134-1".to_vec(), vec![3, 0, 1, 0, 7]]);
+    let refused = Call::apart(TEXT.to_vec(), 0, [vec![0; 9], vec![0; 11], vec![7; 5]]).outcome();
+    assert_eq!((refused.answer, refused.results, &refused.buffers[3][..]), (22, vec![PRESET; 3], &[7; 5][..]));
+    let call = Call::together([b"AB".to_vec(), vec![], vec![3, 0, 1, 0]], vec![0xEE; 6]);
+    let lengths = [2, 0, 0, 0, 0, 0, 0, 0, 4, 0, 0, 0, 6, 0, 0, 0];
+    let frame = [&[7, 0, 0, 0, 0, 0], &lengths[..], b"AB", &[3, 0, 1, 0], &[0xEE; 6]].concat();
+    assert_eq!((call.frame(placing), call.describe()), (frame, "together item=4142 isil= set=03000100 text[6]".into()));
+    let done = call.outcome();
+    assert_eq!((done.answer, &done.results[..], &done.buffers[3][..]), (0, &[5][..], &b"AB.31\xEE"[..]));
+}
+
+#[test]
 fn a_sweep_runs_through_the_last_two_bytes_of_a_string_and_expects_what_the_model_says() {
     let mut random = Random::new(4);
     for place in sweep::PLACES {
@@ -175,14 +198,25 @@ fn what_the_law_expects_of_the_words_of_a_text_is_what_the_model_says() {
 }
 
 #[test]
+fn what_the_laws_expect_of_identifiers_is_what_the_model_says() {
+    let apart = apart_cases::random(1, 3000).filter(|case| case.group == "texts that were built, taken apart");
+    let together = together_cases::random(1, 3000).filter(|case| case.group == "elements of a text, put together");
+    for cases in [apart.collect::<Vec<Case>>(), together.collect()] {
+        assert!(cases.len() > 600 && cases.iter().all(|case| case.call.outcome() == case.expected));
+    }
+}
+
+#[test]
 fn fixed_cases_alone_meet_every_refusal() {
     let answers = |cases: &mut dyn Iterator<Item = Case>| cases.map(|case| case.expected.answer).collect();
-    let met: [(Subject, BTreeSet<u32>); 5] = [
+    let met: [(Subject, BTreeSet<u32>); 7] = [
         (Subject::Read, answers(&mut read_cases::all(1, 0))),
         (Subject::Write, answers(&mut write_cases::all(1, 0))),
         (Subject::Edit, answers(&mut edit_cases::all(1, 0))),
         (Subject::ToText, answers(&mut to_text_cases::all(1, 0))),
         (Subject::ToWords, answers(&mut to_words_cases::all(1, 0))),
+        (Subject::Apart, answers(&mut apart_cases::all(1, 0))),
+        (Subject::Together, answers(&mut together_cases::all(1, 0))),
     ];
     for (subject, met) in met {
         assert!(
@@ -209,15 +243,17 @@ fn half_of_all_buffers_begin_behind_a_guard_and_half_of_the_empty_ones_are_null(
 }
 
 #[test]
-fn nothing_is_made_words_or_text_of_in_every_placing() {
+fn nothing_is_lent_in_every_placing() {
     // The fixed cases that begin a run are its first batch.
     let placings = |cases: &mut dyn Iterator<Item = Case>| {
-        let empty = cases.take(16).enumerate().filter(|(_, case)| case.call.length() == 0);
+        let empty = cases.take(32).enumerate().filter(|(_, case)| case.call.length() == 0);
         let placings = empty.map(|(place, _)| Placing::of(place));
         placings.map(|placing| (placing.null, placing.behind_guard)).collect::<BTreeSet<_>>().len()
     };
     assert_eq!(placings(&mut to_text_cases::all(1, 0)), 4);
     assert_eq!(placings(&mut to_words_cases::all(1, 0)), 4);
+    assert_eq!(placings(&mut apart_cases::all(1, 0)), 4);
+    assert_eq!(placings(&mut together_cases::all(1, 0)), 4);
 }
 
 #[test]

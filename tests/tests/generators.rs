@@ -2,15 +2,16 @@
 
 use independent::build::hex;
 use independent::generate::damaged::{self, Damaged};
+use independent::generate::identifiers::{self, Elements, Text, LEADS};
 use independent::generate::{edits, locks, sheets, tags, values, words};
 use independent::model::block_one::BlockOne;
-use independent::model::refusal::{DAMAGE, EDITING, OFFSET, READING, TO_TEXT, TO_WORDS, WRITING};
+use independent::model::refusal::{APART, DAMAGE, EDITING, OFFSET, READING, TOGETHER, TO_TEXT, TO_WORDS, WRITING};
 use independent::model::text::is_text;
 use independent::model::{
     chain, editing, element, pages, reading, sheet, text_to_words, words_to_text, writing, Content, Refusal,
 };
 use independent::random::Random;
-use independent::trial::damage;
+use independent::trial::{apart, apart_into, damage, together, together_into};
 use std::collections::{BTreeMap, BTreeSet};
 
 /// 0 for a call that is done, else the refusal's number.
@@ -411,6 +412,110 @@ fn texts_have_runs_of_every_length_and_every_character() {
     }
     assert!((0..=15).all(|length| lengths.contains(&length)) && lengths.last() > Some(&300), "{lengths:?}");
     assert!(bytes.into_iter().eq(0..=0x7F), "each of the 128, and no other");
+}
+
+#[test]
+fn identifiers_and_elements_are_good_and_bad_as_they_were_made_to_be() {
+    let mut random = Random::new(37);
+    let (mut leads, mut bits) = (BTreeSet::new(), BTreeSet::new());
+    for _ in 0..20_000 {
+        let Text { text, isil_leads, right } = identifiers::text(&mut random);
+        assert_eq!(apart(&text, isil_leads != 0), right, "{isil_leads} {text:02X?}");
+        leads.insert((isil_leads, right.err()));
+        let Elements { elements: [item, isil, set], right } = identifiers::elements(&mut random);
+        assert_eq!(together(&item, &isil, &set), right, "{item:02X?} {isil:02X?} {set:02X?}");
+        bits.insert((isil.is_empty(), set == [0; 4], right.is_ok()));
+    }
+    assert_eq!(leads.len(), LEADS.len() * 4, "each number of a caller with each answer: {leads:?}");
+    assert_eq!(bits.len(), 8, "{bits:?}");
+}
+
+/// What is wrong with a part in the set's place; nothing where it is set information.
+fn fault_of_set(part: &[u8]) -> &'static str {
+    let (total, ordinal) = part.split_at(part.len() / 2);
+    let number = |digits: &[u8]| std::str::from_utf8(digits).unwrap().parse::<u32>().unwrap();
+    match part.len() {
+        0 => "empty",
+        _ if part == b"S" => "another bank",
+        _ if part.contains(&b'S') => "more than S",
+        _ if part == b"s" => "a small s",
+        _ if !part.iter().all(u8::is_ascii_digit) => "no digit",
+        1 | 3 | 5 => "an odd count",
+        7.. => "more than six",
+        _ if number(total) == 0 => "a total of 0",
+        _ if total[0] == b'0' => "a total with a leading zero",
+        _ if number(total) > 255 => "a total above 255",
+        _ if number(ordinal) > number(total) => "an ordinal above the total",
+        _ => "none",
+    }
+}
+
+#[test]
+fn set_parts_are_bad_in_every_way() {
+    let (mut random, mut met) = (Random::new(38), BTreeMap::new());
+    for _ in 0..20_000 {
+        *met.entry(fault_of_set(&identifiers::bad_set_part(&mut random))).or_insert(0) += 1;
+        let (total, ordinal) = identifiers::set(&mut random);
+        assert_eq!(fault_of_set(&identifiers::digits(total, ordinal)), "none");
+    }
+    assert!(met.len() == 10 && met.values().all(|times| *times > 50), "{met:?}");
+    assert!(!met.contains_key("none") && !met.contains_key("another bank"), "{met:?}");
+    let listed: BTreeSet<&str> = identifiers::bad_sets().into_iter().map(fault_of_set).collect();
+    assert!(listed.into_iter().eq(met.into_keys()));
+}
+
+#[test]
+fn parts_and_elements_reach_the_edges() {
+    let mut random = Random::new(39);
+    let (mut good, mut bad, mut sets) = (BTreeSet::new(), BTreeSet::new(), BTreeSet::new());
+    let (mut faults, mut counts) = (BTreeSet::new(), BTreeSet::new());
+    for _ in 0..40_000 {
+        good.insert(identifiers::item(&mut random).len());
+        let item = identifiers::bad_item(&mut random);
+        faults.extend(fault(&item));
+        bad.insert(if fault(&item).is_some() { 1 } else { item.len() });
+        sets.insert(identifiers::set(&mut random));
+        let Text { text, isil_leads, .. } = identifiers::text(&mut random);
+        counts.insert((isil_leads != 0, text.split(|byte| *byte == b'.').count()));
+    }
+    assert!([1, 2, 15, 16, 253, 254, 255].iter().all(|length| good.contains(length)) && good.last() == Some(&255));
+    assert_eq!(bad.into_iter().collect::<Vec<_>>(), [0, 1, 256, 257, 300, 511, 512], "1 for no text");
+    assert_eq!(faults.len(), 7, "{faults:?}");
+    let edges = [(1, 0), (1, 1), (9, 9), (10, 0), (10, 9), (99, 99), (100, 99), (100, 100), (255, 0), (255, 255)];
+    assert!(edges.iter().all(|edge| sets.contains(edge)), "{sets:?}");
+    let (with, without): (Vec<_>, Vec<_>) = counts.into_iter().partition(|(isil_leads, _)| *isil_leads);
+    assert!(with.into_iter().map(|(_, count)| count).eq(1..=6));
+    assert!(without.into_iter().map(|(_, count)| count).eq(1..=5));
+}
+
+#[test]
+fn faults_of_identifiers_stand_together_and_rooms_are_of_every_kind() {
+    let mut random = Random::new(40);
+    let (mut apart_met, mut together_met) = (BTreeMap::new(), BTreeMap::new());
+    // Which faults a text shows besides its refusal, and which of the three rooms are short.
+    let (mut together_with, mut short) = (BTreeSet::new(), BTreeMap::new());
+    for _ in 0..20_000 {
+        let made = identifiers::text(&mut random);
+        let (exact, rooms) = (made.lengths(), identifiers::rooms(&mut random, made.lengths()));
+        let Text { text, isil_leads, right } = made;
+        *apart_met.entry(number(apart_into(&text, isil_leads, rooms))).or_default() += 1;
+        if let Err(number) = right {
+            together_with.insert((number, text.ends_with(b".S"), rooms == [0; 3]));
+        } else {
+            let off: [isize; 3] = std::array::from_fn(|place| rooms[place] as isize - exact[place] as isize);
+            *short.entry(off.map(|off| off.clamp(-1, 1))).or_insert(0) += 1;
+        }
+        let Elements { elements, right } = identifiers::elements(&mut random);
+        let room = words::room(&mut random, right.map_or(20, |text| text.len()));
+        let elements = elements.each_ref().map(|element| &element[..]);
+        *together_met.entry(number(together_into(elements, room))).or_default() += 1;
+    }
+    all_met(&apart_met, &APART, 500);
+    all_met(&together_met, &TOGETHER, 500);
+    assert_eq!(together_with.len(), 2 * 2 * 2 + 2, "22 and 6 with S and without, 23, each with room and without");
+    for only in [[-1, 0, 0], [0, -1, 0], [0, 0, -1], [0, 0, 0], [1, 1, 1]] {
+        assert!(short.get(&only).is_some_and(|times| *times > 100), "{only:?} in {short:?}");
+    }
 }
 
 #[test]

@@ -3,11 +3,11 @@
 
 use independent::build::{self, block, Draft};
 use independent::generate::locks;
-use independent::model::refusal::{name, EDITING, OFFSET, READING, TO_TEXT, TO_WORDS, WRITING};
+use independent::model::refusal::{name, APART, EDITING, OFFSET, READING, TOGETHER, TO_TEXT, TO_WORDS, WRITING};
 use independent::model::sheet;
 use independent::trial::{
-    carrying, damage, edit_under, edited, read, read_into, sheet_with, tag_with, to_text_into, to_words_into, write,
-    written,
+    apart_into, carrying, damage, edit_under, edited, read, read_into, sheet_with, tag_with, to_text_into,
+    to_words_into, together_into, write, written,
 };
 
 /// Tags of 64 bytes, each with one fault, and the refusal that reading and editing give for it.
@@ -61,8 +61,8 @@ fn reading_gives_each_refusal() {
 #[test]
 fn the_numbers_have_the_words_of_the_table() {
     let table = "accepted Size Room Content Check retired Field Mismatch Sheet Value Clash Large Locked Loose Offset \
-                 Length End ID Checksum Second Word High unknown";
-    assert_eq!((0..=22).map(name).collect::<Vec<_>>().join(" "), table);
+                 Length End ID Checksum Second Word High Parts Bank unknown";
+    assert_eq!((0..=24).map(name).collect::<Vec<_>>().join(" "), table);
 }
 
 #[test]
@@ -206,4 +206,65 @@ fn text_into_words_gives_21_before_2() {
     assert_eq!(to_words_into(b"CH-\x80", 4), Err(21));
     assert_eq!(to_words_into(b"CH-", 0), Err(2));
     assert_eq!(to_words_into(b"CH-", 1), Ok(vec![0x141C]));
+}
+
+#[test]
+fn taking_apart_gives_each_refusal() {
+    assert_eq!(APART, [22, 6, 23, 2]);
+    let enough = [1, 4, 4];
+    let given = |texts: &[&[u8]], isil_leads: u32, number: u32| {
+        for text in texts {
+            assert_eq!(apart_into(text, isil_leads, enough), Err(number), "{text:02X?}");
+        }
+    };
+    given(&[b"DK-1", b"DK-1.X.31."], 1, 22);
+    given(&[b"X.31.", b"DK-1.X.31"], 0, 22);
+    given(&[b"dk-1.X.31", b"DK-1..31", b"DK-1.\x7F.31", b"DK-1.X.", b"DK-1.X.32S", b"DK-1.X.00"], 1, 6);
+    given(&[b"", &[b'x'; 256], b"X.13"], 0, 6);
+    given(&[b"DK-1.X.S"], 1, 23);
+    given(&[b"X.S"], 0, 23);
+    for short in 0..3 {
+        let mut rooms = enough;
+        rooms[short] -= 1;
+        assert_eq!(apart_into(b"DK-1.X.31", 1, rooms), Err(2));
+    }
+    assert!(apart_into(b"DK-1.X.31", 1, enough).is_ok());
+}
+
+#[test]
+fn taking_apart_with_all_faults_at_once_gives_them_in_order() {
+    let texts: [&[u8]; 9] = [
+        b"dk-1.\xFF.s.S",
+        b"dk-1.\xFF.s",
+        b"DK-1.\xFF.s",
+        b"DK-1.X.s",
+        b"dk-1.X.S",
+        b"DK-1.\xFF.S",
+        b"DK-1.X.S",
+        b"DK-1.X.31",
+        b"DK-1.X",
+    ];
+    let met = texts.map(|text| apart_into(text, 1, [0; 3]).unwrap_err());
+    assert_eq!(met, [22, 6, 6, 6, 6, 6, 23, 2, 2]);
+    let rooms = [[1, 0, 0], [1, 4, 0], [1, 0, 4], [0, 4, 4], [1, 4, 4]];
+    assert_eq!(rooms.map(|rooms| apart_into(b"DK-1.X", 1, rooms).err()), [Some(2), Some(2), Some(2), Some(2), None]);
+}
+
+#[test]
+fn putting_together_gives_9_before_2() {
+    assert_eq!(TOGETHER, [9, 2]);
+    let good: [&[u8]; 3] = [b"X", b"DK-1", &[3, 0, 1, 0]];
+    let faults: [[&[u8]; 3]; 3] = [[b"A.B", b"", &[0xFF; 256]], [b"dk-1", b"DK-1.", b"-"], [&[1, 0, 2, 0], b"", b"31"]];
+    for (place, bad) in faults.iter().enumerate().flat_map(|(place, bad)| bad.map(|bad| (place, bad))) {
+        let mut elements = good;
+        elements[place] = bad;
+        assert_eq!([0, 300].map(|room| together_into(elements, room)), [const { Err(9) }; 2], "{bad:02X?}");
+    }
+    // All faults at once, mended one by one.
+    assert_eq!(together_into([b"A.B", b"dk-1", &[1, 0, 2, 0]], 0), Err(9));
+    assert_eq!(together_into([b"X", b"dk-1", &[1, 0, 2, 0]], 0), Err(9));
+    assert_eq!(together_into([b"X", b"DK-1", &[1, 0, 2, 0]], 0), Err(9));
+    assert_eq!(together_into(good, 0), Err(2));
+    assert_eq!(together_into(good, 8), Err(2));
+    assert_eq!(together_into(good, 9), Ok(b"DK-1.X.31".to_vec()));
 }

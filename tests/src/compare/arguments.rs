@@ -1,13 +1,13 @@
 //! What the command line asks for.
 
 use crate::model::refusal::{
-    self, CHECK, CLASH, CONTENT, DAMAGE, EDITING, FIELD, LARGE, LOCKED, LOOSE, MISMATCH, OFFSET, READING, TO_TEXT,
-    TO_WORDS, VALUE, WRITING,
+    self, APART, CHECK, CLASH, CONTENT, DAMAGE, EDITING, FIELD, LARGE, LOCKED, LOOSE, MISMATCH, OFFSET, READING,
+    TOGETHER, TO_TEXT, TO_WORDS, VALUE, WRITING,
 };
 
 pub const USAGE: &str =
-    "usage: compare read|write|edit|texts|to_text|to_words|histories|torn|changed|faults|taglist SEED COUNT \
-     PROGRAM [ARGUMENT ..]";
+    "usage: compare read|write|edit|texts|to_text|to_words|apart|together|histories|torn|changed|faults|taglist \
+     SEED COUNT PROGRAM [ARGUMENT ..]";
 
 #[derive(Clone, Copy, PartialEq, Eq)]
 pub enum Subject {
@@ -17,6 +17,8 @@ pub enum Subject {
     Texts,
     ToText,
     ToWords,
+    Apart,
+    Together,
     Histories,
     Torn,
     Changed,
@@ -33,13 +35,15 @@ pub struct Arguments {
 }
 
 impl Subject {
-    const ALL: [Subject; 11] = [
+    const ALL: [Subject; 13] = [
         Subject::Read,
         Subject::Write,
         Subject::Edit,
         Subject::Texts,
         Subject::ToText,
         Subject::ToWords,
+        Subject::Apart,
+        Subject::Together,
         Subject::Histories,
         Subject::Torn,
         Subject::Changed,
@@ -55,6 +59,8 @@ impl Subject {
             Subject::Texts => "texts",
             Subject::ToText => "to_text",
             Subject::ToWords => "to_words",
+            Subject::Apart => "apart",
+            Subject::Together => "together",
             Subject::Histories => "histories",
             Subject::Torn => "torn",
             Subject::Changed => "changed",
@@ -72,6 +78,8 @@ impl Subject {
             Subject::Texts => vec![FIELD, MISMATCH, VALUE],
             Subject::ToText => TO_TEXT.to_vec(),
             Subject::ToWords => TO_WORDS.to_vec(),
+            Subject::Apart => APART.to_vec(),
+            Subject::Together => TOGETHER.to_vec(),
             Subject::Histories => vec![refusal::ROOM, VALUE, CLASH, LARGE, LOCKED],
             Subject::Torn => [&[CHECK], &DAMAGE[..], &[MISMATCH, LOOSE, VALUE, CLASH, LARGE, LOCKED]].concat(),
             Subject::Changed => {

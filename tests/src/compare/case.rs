@@ -15,6 +15,8 @@ pub enum Kind {
     Edit = 3,
     ToText = 4,
     ToWords = 5,
+    Apart = 6,
+    Together = 7,
 }
 
 /// How the driver passes the buffers of a call.
@@ -44,6 +46,7 @@ impl Placing {
 #[derive(Clone)]
 pub struct Call {
     kind: Kind,
+    /// The element's number, or whether an ISIL leads; else 0.
     number: u32,
     pub buffers: Vec<Vec<u8>>,
 }
@@ -84,6 +87,16 @@ impl Call {
         Call { kind: Kind::ToWords, number: 0, buffers: vec![text, in_bytes(words)] }
     }
 
+    /// Taking apart, into the buffers of elements 1, 3 and 4.
+    pub fn apart(text: Vec<u8>, isil_leads: u32, [item, isil, set]: [Vec<u8>; 3]) -> Call {
+        Call { kind: Kind::Apart, number: isil_leads, buffers: vec![text, item, isil, set] }
+    }
+
+    /// Putting elements 1, 3 and 4 together.
+    pub fn together([item, isil, set]: [Vec<u8>; 3], text: Vec<u8>) -> Call {
+        Call { kind: Kind::Together, number: 0, buffers: vec![item, isil, set, text] }
+    }
+
     /// The outcome by the model. A call that is done writes every result but the place; a refusal writes none but that.
     pub fn outcome(&self) -> Outcome {
         let mut buffers = self.buffers.clone();
@@ -104,6 +117,12 @@ impl Call {
                 *buffer = in_bytes(&words);
                 done.map(|used| vec![used]).map_err(Refusal::from)
             }
+            (Kind::Apart, [text, item, isil, set]) => {
+                model::take_apart(text, self.number, [item, isil, set]).map(Vec::from).map_err(Refusal::from)
+            }
+            (Kind::Together, [item, isil, set, text]) => {
+                model::put_together(item, isil, set, text).map(|used| vec![used]).map_err(Refusal::from)
+            }
             _ => unreachable!("the constructors give each call its buffers"),
         };
         let mut results = vec![PRESET; self.result_names().len()];
@@ -121,7 +140,8 @@ impl Call {
             Kind::Read => &["used", "place"],
             Kind::Write => &["pages"],
             Kind::Edit => &["pages", "old_used", "place"],
-            Kind::ToText | Kind::ToWords => &["used"],
+            Kind::ToText | Kind::ToWords | Kind::Together => &["used"],
+            Kind::Apart => &["item_used", "isil_used", "set_used"],
         }
     }
 
@@ -132,6 +152,8 @@ impl Call {
             Kind::Edit => &["tag", "locks", "value", "old"],
             Kind::ToText => &["words", "text"],
             Kind::ToWords => &["text", "words"],
+            Kind::Apart => &["text", "item", "isil", "set"],
+            Kind::Together => &["item", "isil", "set", "text"],
         }
     }
 
@@ -153,21 +175,25 @@ impl Call {
 
     /// The call in one line; of a buffer that is only filled, its length.
     pub fn describe(&self) -> String {
-        let (name, only_filled) = match self.kind {
-            Kind::Read => ("read", "sheet"),
-            Kind::Write => ("write", ""),
-            Kind::Edit => ("edit", "old"),
-            Kind::ToText => ("to_text", "text"),
-            Kind::ToWords => ("to_words", "words"),
+        let (name, only_filled): (&str, &[&str]) = match self.kind {
+            Kind::Read => ("read", &["sheet"]),
+            Kind::Write => ("write", &[]),
+            Kind::Edit => ("edit", &["old"]),
+            Kind::ToText => ("to_text", &["text"]),
+            Kind::ToWords => ("to_words", &["words"]),
+            Kind::Apart => ("apart", &["item", "isil", "set"]),
+            Kind::Together => ("together", &["text"]),
         };
         let mut line = name.to_string();
-        if self.kind == Kind::Edit {
-            line += &format!(" number={}", self.number);
-        }
+        line += &match self.kind {
+            Kind::Edit => format!(" number={}", self.number),
+            Kind::Apart => format!(" isil_leads={}", self.number),
+            _ => String::new(),
+        };
         for (name, buffer) in self.buffer_names().iter().zip(&self.buffers) {
             let length = if *name == "words" { buffer.len() / 2 } else { buffer.len() };
             line += &match *name {
-                _ if *name == only_filled => format!(" {name}[{length}]"),
+                _ if only_filled.contains(name) => format!(" {name}[{length}]"),
                 "words" => format!(" {name}={}", hex_words(&in_words(buffer))),
                 _ => format!(" {name}={}", capital_hex(buffer)),
             };

@@ -3,7 +3,10 @@
 use super::arguments::Subject;
 use super::engine::{self, shared, Cases};
 use super::report::Report;
-use super::{changed_cases, edit_cases, read_cases, to_text_cases, to_words_cases, torn_cases, write_cases};
+use super::{
+    apart_cases, changed_cases, edit_cases, read_cases, to_text_cases, to_words_cases, together_cases, torn_cases,
+    write_cases,
+};
 use crate::model::refusal;
 use std::time::{Duration, Instant};
 
@@ -23,7 +26,7 @@ struct Part {
 
 /// All parts, with so many random buffers for each call.
 pub fn compare(program: &[String], seed: u64, count: usize) -> Result<String, String> {
-    let parts: [(Subject, &str, Vec<Cases>); 7] = [
+    let parts: [(Subject, &str, Vec<Cases>); 9] = [
         (Subject::Torn, "torn writes", shared(seed, TORN, torn_cases::all)),
         (Subject::Changed, "changed bytes", changed_cases::shares(seed, PAIRS)),
         (Subject::Read, "random buffers, reading", shared(seed, count, read_cases::random)),
@@ -31,6 +34,8 @@ pub fn compare(program: &[String], seed: u64, count: usize) -> Result<String, St
         (Subject::Edit, "random buffers, editing", shared(seed, count, edit_cases::random)),
         (Subject::ToText, "random buffers, words into text", shared(seed, count, to_text_cases::random)),
         (Subject::ToWords, "random buffers, text into words", shared(seed, count, to_words_cases::random)),
+        (Subject::Apart, "random buffers, taking apart", shared(seed, count, apart_cases::random)),
+        (Subject::Together, "random buffers, putting together", shared(seed, count, together_cases::random)),
     ];
     let mut done: Vec<Part> = Vec::new();
     for (subject, title, shares) in parts {

@@ -14,8 +14,8 @@ use crate::trial::{sheet_with, tag_with};
 pub type WithString = fn(&[u8]) -> Call;
 
 /// Every such place. On a tag the string ends with its field, so that bytes of another meaning follow, or the end of the tag or
-/// of block 1.
-const PLACES: [WithString; 12] = [
+/// of block 1. In an identifier a dot follows, or the end.
+const PLACES: [WithString; 15] = [
     item_field,
     |string| read(Draft::default().owner(&other_owner(2, &filling(10, string))), 36),
     |string| read(Draft::default().owner(&other_owner(3, &filling(8, string))), 32),
@@ -28,6 +28,9 @@ const PLACES: [WithString; 12] = [
     edit_item,
     |string| edit(22, string),
     |string| edit(23, &[&[3], string].concat()),
+    |string| apart(&[b"a", string].concat()),
+    |string| apart(&[string, b".31"].concat()),
+    |string| Call::together([string.to_vec(), vec![], vec![3, 0, 1, 0]], vec![0xEE; 8]),
 ];
 
 /// Every bound of the first byte, of the second and of the others in RFC 3629's table, with its neighbour beyond; 00, 1F, 20,
@@ -50,8 +53,8 @@ pub fn compare(program: &[String], seed: u64, count: usize) -> Result<String, St
 
 /// The names, and two shares for each place, those with fewer cases first.
 fn shares() -> Vec<Cases> {
-    let bounds = PLACES.map(|call| cases("strings of 3 and 4 bytes at every bound, in 12 places", call, at_bounds()));
-    let short = PLACES.map(|call| cases("all strings of 1 and 2 bytes, in 12 places", call, one_and_two()));
+    let bounds = PLACES.map(|call| cases("strings of 3 and 4 bytes at every bound, in 15 places", call, at_bounds()));
+    let short = PLACES.map(|call| cases("all strings of 1 and 2 bytes, in 15 places", call, one_and_two()));
     [boxed(limits())].into_iter().chain(bounds).chain(short).collect()
 }
 
@@ -88,7 +91,7 @@ fn limits() -> impl Iterator<Item = Case> + Send {
 }
 
 /// A text of exactly so many bytes: this character, and letters of one byte where it does not go in.
-fn name(character: &str, length: usize) -> Vec<u8> {
+pub fn name(character: &str, length: usize) -> Vec<u8> {
     let mut name = character.repeat(length / character.len()).into_bytes();
     name.resize(length, b'x');
     name
@@ -144,6 +147,10 @@ fn read(draft: Draft, length: usize) -> Call {
 
 fn write(number: u8, value: &[u8]) -> Call {
     Call::write(sheet_with(&[(number, value)]), vec![0xEE; 48], locks::open(48))
+}
+
+fn apart(text: &[u8]) -> Call {
+    Call::apart(text.to_vec(), 0, [5, 0, 4].map(|room| vec![0xEE; room]))
 }
 
 fn edit(number: u8, value: &[u8]) -> Call {

@@ -20,6 +20,8 @@ pub const CHECKSUM: u32 = 18;
 pub const SECOND: u32 = 19;
 pub const WORD: u32 = 20;
 pub const HIGH: u32 = 21;
+pub const PARTS: u32 = 22;
+pub const BANK: u32 = 23;
 
 /// Damage in the chain, in the order in which each block is tested for it.
 pub const DAMAGE: [u32; 5] = [LENGTH, END, ID, CHECKSUM, SECOND];
@@ -41,6 +43,12 @@ pub const TO_TEXT: [u32; 2] = [WORD, ROOM];
 /// Text into words: "21 a character above 7F, then 2".
 pub const TO_WORDS: [u32; 2] = [HIGH, ROOM];
 
+/// Taking apart: "22 number of parts, 6 a bad part, 23 S, then 2, in that order".
+pub const APART: [u32; 4] = [PARTS, FIELD, BANK, ROOM];
+
+/// Putting together: "9 for a bad element or a dot, then 2".
+pub const TOGETHER: [u32; 2] = [VALUE, ROOM];
+
 /// What reading and editing refuse with: "a refusal for damage gives its number and that place, any other its number
 /// alone". The other calls, which walk no chain, refuse with a number.
 #[derive(Clone, Copy, Debug, PartialEq, Eq)]
@@ -58,9 +66,10 @@ impl From<u32> for Refusal {
 
 /// The table's word for a number; for those of the requests a word of ours.
 pub fn name(number: u32) -> &'static str {
-    const NAMES: [&str; 22] = [
+    const NAMES: [&str; 24] = [
         "accepted", "Size", "Room", "Content", "Check", "retired", "Field", "Mismatch", "Sheet", "Value", "Clash",
-        "Large", "Locked", "Loose", "Offset", "Length", "End", "ID", "Checksum", "Second", "Word", "High",
+        "Large", "Locked", "Loose", "Offset", "Length", "End", "ID", "Checksum", "Second", "Word", "High", "Parts",
+        "Bank",
     ];
     NAMES.get(number as usize).copied().unwrap_or("unknown")
 }

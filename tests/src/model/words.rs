@@ -22,7 +22,7 @@ pub fn text_to_words(text: &[u8], words: &mut [u16]) -> Result<usize, u32> {
 }
 
 /// "gives 2 exactly when a buffer is too short for its output" (document 01)
-fn fill<T: Copy>(buffer: &mut [T], output: &[T]) -> Result<usize, u32> {
+pub fn fill<T: Copy>(buffer: &mut [T], output: &[T]) -> Result<usize, u32> {
     need(buffer.len() >= output.len(), refusal::ROOM)?;
     buffer[..output.len()].copy_from_slice(output);
     Ok(output.len())
