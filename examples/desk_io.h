@@ -31,6 +31,12 @@ struct element {
     size_t len;
 };
 
+/* The text of a UHF tag's identifier. */
+struct text {
+    uint8_t bytes[3 * WORDS_MAX];
+    size_t len;
+};
+
 /* ---- what is shown ---- */
 
 static int trouble(const char *about, const char *what)
@@ -118,7 +124,7 @@ static void show_element(uint32_t number, const uint8_t *bytes, size_t len)
     show_text(bytes + len - text, text);
 }
 
-/* Shows a sheet that the library gave. */
+/* Shows a sheet that the library gave or took. */
 static void show_sheet(const uint8_t *sheet)
 {
     size_t count = sheet[0] + 256 * (size_t)sheet[1], i;
@@ -278,16 +284,22 @@ static int take_hex(const char *hex, struct element *e)
     return 1;
 }
 
-/* Takes a text behind a "=", as the bytes that it is; else as take_hex. */
+/* Takes a text as the bytes that it is; false if they are too many. */
+static int take_text(const char *text, struct element *e)
+{
+    e->len = strlen(text);
+    if (e->len > sizeof e->bytes)
+        return 0;
+    memcpy(e->bytes, text, e->len);
+    return 1;
+}
+
+/* Takes a text behind a "=", which is not empty; else as take_hex. */
 static int take_value(const char *word, struct element *e)
 {
     if (word[0] != '=')
         return take_hex(word, e);
-    e->len = strlen(word + 1);
-    if (e->len == 0 || e->len > sizeof e->bytes)
-        return 0;
-    memcpy(e->bytes, word + 1, e->len);
-    return 1;
+    return word[1] != '\0' && take_text(word + 1, e);
 }
 
 /* Takes four hex digits; false if it is anything else. */
@@ -307,17 +319,68 @@ static int take_word(const char *hex, uint16_t *word)
     return 1;
 }
 
+/* Takes words of four hex digits each. */
+static int take_words(int count, char **hex, uint16_t *words)
+{
+    int i;
+
+    if (count > WORDS_MAX)
+        return trouble("words", "more than 512");
+    for (i = 0; i < count; i++)
+        if (!take_word(hex[i], &words[i]))
+            return trouble(hex[i], "not a word of four hex digits");
+    return DONE;
+}
+
 /* Takes a decimal number of 32 bits; false if it is none. */
-static int take_number(const char *word, struct element *e)
+static int take_number(const char *word, uint32_t *number)
 {
     size_t digits = strlen(word);
-    unsigned long number = strtoul(word, NULL, 10);
+    unsigned long taken = strtoul(word, NULL, 10);
 
     if (digits == 0 || digits > 10 || strspn(word, "0123456789") != digits
-        || number > 0xFFFFFFFFUL)
+        || taken > 0xFFFFFFFFUL)
         return 0;
-    e->number = (uint32_t)number;
+    *number = (uint32_t)taken;
     return 1;
+}
+
+static void put_low_first(uint8_t *two, size_t number)
+{
+    two[0] = (uint8_t)(number % 256);
+    two[1] = (uint8_t)(number / 256);
+}
+
+/* Takes two decimal numbers of 16 bits; false if they are none. */
+static int take_set(const char *total, const char *ordinal, struct element *e)
+{
+    uint32_t numbers[2];
+
+    if (!take_number(total, &numbers[0]) || !take_number(ordinal, &numbers[1])
+        || numbers[0] > 0xFFFF || numbers[1] > 0xFFFF)
+        return 0;
+    put_low_first(e->bytes, numbers[0]);
+    put_low_first(e->bytes + 2, numbers[1]);
+    e->len = 4;
+    return 1;
+}
+
+/* Takes two hex digits as element 5. */
+static int take_usage(const char *hex, struct element *e)
+{
+    e->number = URP_ELEMENT_USAGE;
+    if (take_hex(hex, e) && e->len == 1)
+        return DONE;
+    return trouble(hex, "not a usage of two hex digits");
+}
+
+/* Takes what leads an identifier, "isil" or "item". */
+static int take_lead(const char *word, uint32_t *isil_leads)
+{
+    *isil_leads = strcmp(word, "isil") == 0;
+    if (*isil_leads || strcmp(word, "item") == 0)
+        return DONE;
+    return trouble(word, "neither isil nor item");
 }
 
 #endif
