@@ -418,8 +418,8 @@ static size_t make_set(const struct row *row, int which, uint8_t *set,
 }
 
 /* An identifier of the row's length and its elements: the item identifier takes
-   what the rest leaves. Letters are 51 bytes over and over, so that none of 255
-   is cut. */
+   what the rest leaves. Letters are 51 or 17 bytes over and over, so that none
+   of 255 is cut. */
 static void make_identifier(const struct row *row, int which, uint8_t *text,
                             struct elements *e)
 {
@@ -432,9 +432,7 @@ static void make_identifier(const struct row *row, int which, uint8_t *text,
         "B\303\274cher\342\200\223Regal; "
         "\304\214\303\255tanka \303\206r\303\270, "
         "\316\221\316\270\316\256\316\275\316\261 \360\235\204\236; ",
-        "\316\221\316\270\316\256\316\275\316\261 \360\235\204\236; "
-        "\304\214\303\255tanka \303\206r\303\270, "
-        "B\303\274cher\342\200\223Regal; "
+        "\303\234bergr\303\266\303\237e\342\200\22312"
     };
     const char *isil = (row->len > URP_ITEM_MAX ? long_isils : isils)[which];
     char part[1 + 6 + 1];

@@ -157,16 +157,13 @@ uint32_t stack_text_to_words(const uint8_t *text, size_t text_len,
 }
 
 uint32_t stack_take_apart(const uint8_t *text, size_t text_len,
-                          uint32_t isil_leads,
-                          uint8_t *item, size_t item_len,
-                          uint8_t *isil, size_t isil_len,
-                          uint8_t *set, size_t set_len,
-                          size_t *item_used, size_t *isil_used,
+                          uint32_t isil_leads, uint8_t *item, size_t item_len,
+                          uint8_t *isil, size_t isil_len, uint8_t *set,
+                          size_t set_len, size_t *item_used, size_t *isil_used,
                           size_t *set_used)
 {
-    MEASURED(APART, urp_take_apart(text, text_len, isil_leads,
-                                   item, item_len, isil, isil_len,
-                                   set, set_len,
+    MEASURED(APART, urp_take_apart(text, text_len, isil_leads, item, item_len,
+                                   isil, isil_len, set, set_len,
                                    item_used, isil_used, set_used));
 }
 

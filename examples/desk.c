@@ -12,17 +12,25 @@
 
 /* ---- tags ---- */
 
+/* Reads a tag into a sheet with the room that always suffices. */
+static int read_tag(const struct tag *tag, uint8_t *sheet, size_t *used)
+{
+    size_t place;
+    uint32_t answer = urp_read(tag->bytes, tag->len, sheet, URP_SHEET_MAX,
+                               used, &place);
+
+    return answer == URP_DONE ? DONE : refused_at(answer, &place);
+}
+
 static int show_tag(const struct tag *tag)
 {
     uint8_t sheet[URP_SHEET_MAX];
-    size_t used, place;
-    uint32_t answer = urp_read(tag->bytes, tag->len, sheet, sizeof sheet,
-                               &used, &place);
+    size_t used;
+    int status = read_tag(tag, sheet, &used);
 
-    if (answer != URP_DONE)
-        return refused_at(answer, &place);
-    show_sheet(sheet);
-    return DONE;
+    if (status == DONE)
+        show_sheet(sheet);
+    return status;
 }
 
 static int list(const char *tag_path)
@@ -353,12 +361,10 @@ static int demo_write(struct tag *tag, const uint8_t *sheet, size_t len)
 static int demo_read(const struct tag *tag, const uint8_t *written, size_t len)
 {
     uint8_t sheet[URP_SHEET_MAX];
-    size_t used, place;
-    uint32_t answer = urp_read(tag->bytes, tag->len, sheet, sizeof sheet,
-                               &used, &place);
+    size_t used;
 
-    if (answer != URP_DONE)
-        return refused_at(answer, &place);
+    if (read_tag(tag, sheet, &used) != DONE)
+        return REFUSED;
     if (used != len || memcmp(sheet, written, used) != 0)
         return trouble("demo", "another sheet was read than written");
     printf("read   the sheet that was written, %lu bytes: ",

@@ -814,42 +814,35 @@ static void set_digits(int digits, unsigned first, unsigned last)
 static void apart_refused(void)
 {
     static const struct {
-        const char *text;
         uint32_t isil_leads;
         uint32_t answer;
+        const char *texts[24];  /* up to a null */
     } tried[] = {
-        { "", 1, URP_PARTS }, { "x", 1, URP_PARTS },
-        { "..", 0, URP_PARTS }, { "\200..S", 0, URP_PARTS },
-        { "...", 1, URP_PARTS }, { "dk.x.S.", 1, URP_PARTS },
-        { "", 0, URP_FIELD }, { ".", 0, URP_FIELD }, { "..", 1, URP_FIELD },
-        { "x.", 0, URP_FIELD }, { ".31", 0, URP_FIELD },
-        { ".S", 0, URP_FIELD }, { "\303.S", 0, URP_FIELD },
-        { "x\037", 0, URP_FIELD }, { "x\177.31", 0, URP_FIELD },
-        { "dk-1.x", 1, URP_FIELD }, { "DK-1..S", 1, URP_FIELD },
-        { ".x.S", 1, URP_FIELD }, { "DKDKD-1.x", 1, URP_FIELD },
-        { "DK-123456789012.x", 1, URP_FIELD }, { "DK-1.x.", 1, URP_FIELD },
-        { "x.s", 0, URP_FIELD }, { "x.SS", 0, URP_FIELD },
-        { "x.3S", 0, URP_FIELD }, { "x.3", 0, URP_FIELD },
-        { "x.120", 0, URP_FIELD }, { "x.12345", 0, URP_FIELD },
-        { "x.1200012", 0, URP_FIELD }, { "x.11111111", 0, URP_FIELD },
-        { "x.3/", 0, URP_FIELD }, { "x.3:", 0, URP_FIELD },
-        { "x. 1", 0, URP_FIELD }, { "x.-1", 0, URP_FIELD },
-        { "x.S", 0, URP_BANK }, { "S.S", 0, URP_BANK },
-        { "DK-1.x.S", 1, URP_BANK }, { "DK-1.S", 0, URP_BANK }
+        { 0, URP_PARTS, { "..", "\200..S", "x.3.1" } },
+        { 1, URP_PARTS, { "", "x", "S", "...", "dk.x.S." } },
+        { 0, URP_FIELD,
+          { "", ".", "x.", ".31", ".S", "\303.S", "x\037", "x\177.31", "x.s",
+            "x.SS", "x.3S", "x.3", "x.120", "x.12345", "x.1200012",
+            "x.11111111", "x.3/", "x.3:", "x. 1", "x.-1" } },
+        { 1, URP_FIELD,
+          { "..", "dk-1.x", "DK-1..S", ".x.S", "DKDKD-1.x", "DK-1.x.",
+            "DK-123456789012.x", "DK-1.\200" } },
+        { 0, URP_BANK, { "x.S", "S.S", "DK-1.S" } },
+        { 1, URP_BANK, { "DK-1.x.S", "DK-1.S.S" } }
     };
     static const size_t none[ELEMENTS] = { 0, 0, 0 };
     struct elements e;
+    const char *const *text;
     size_t i;
 
     memset(&e, 0, sizeof e);
-    for (i = 0; i < sizeof tried / sizeof tried[0]; i++) {
-        size_t len = strlen(tried[i].text);
-
-        try_apart(tried[i].text, len, tried[i].isil_leads, sufficing,
-                  tried[i].answer, &e);
-        try_apart(tried[i].text, len, tried[i].isil_leads, none,
-                  tried[i].answer, &e);
-    }
+    for (i = 0; i < sizeof tried / sizeof tried[0]; i++)
+        for (text = tried[i].texts; *text != NULL; text++) {
+            try_apart(*text, strlen(*text), tried[i].isil_leads, sufficing,
+                      tried[i].answer, &e);
+            try_apart(*text, strlen(*text), tried[i].isil_leads, none,
+                      tried[i].answer, &e);
+        }
     try_apart(NULL, 0, 0, none, URP_FIELD, &e);
     try_apart("x", 1, 0, none, URP_ROOM, &e);
     /* S elsewhere is an item identifier; before .S it is without the two */
