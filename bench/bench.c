@@ -25,12 +25,20 @@ typedef uint32_t to_text_call(const uint16_t *, size_t, uint8_t *, size_t,
                               size_t *);
 typedef uint32_t to_words_call(const uint8_t *, size_t, uint16_t *, size_t,
                                size_t *);
+typedef uint32_t apart_call(const uint8_t *, size_t, uint32_t,
+                            uint8_t *, size_t, uint8_t *, size_t,
+                            uint8_t *, size_t, size_t *, size_t *, size_t *);
+typedef uint32_t together_call(const uint8_t *, size_t, const uint8_t *, size_t,
+                               const uint8_t *, size_t, uint8_t *, size_t,
+                               size_t *);
 
 extern read_call plain_read;
 extern write_call plain_write;
 extern edit_call plain_edit;
 extern to_text_call plain_words_to_text;
 extern to_words_call plain_text_to_words;
+extern apart_call plain_take_apart;
+extern together_call plain_put_together;
 
 #ifdef WITH_RUST
 extern read_call rust_read;
@@ -38,6 +46,8 @@ extern write_call rust_write;
 extern edit_call rust_edit;
 extern to_text_call rust_words_to_text;
 extern to_words_call rust_text_to_words;
+extern apart_call rust_take_apart;
+extern together_call rust_put_together;
 #endif
 
 struct library {
@@ -46,15 +56,18 @@ struct library {
     edit_call *edit;
     to_text_call *to_text;
     to_words_call *to_words;
+    apart_call *apart;
+    together_call *together;
 };
 
 static const struct library libraries[] = {
-    { urp_read, urp_write, urp_edit, urp_words_to_text, urp_text_to_words },
+    { urp_read, urp_write, urp_edit, urp_words_to_text, urp_text_to_words,
+      urp_take_apart, urp_put_together },
     { plain_read, plain_write, plain_edit, plain_words_to_text,
-      plain_text_to_words },
+      plain_text_to_words, plain_take_apart, plain_put_together },
 #ifdef WITH_RUST
     { rust_read, rust_write, rust_edit, rust_words_to_text,
-      rust_text_to_words },
+      rust_text_to_words, rust_take_apart, rust_put_together },
 #endif
 };
 
@@ -65,11 +78,18 @@ enum { LIBRARIES = sizeof libraries / sizeof libraries[0] };
 enum { MOST_REPETITIONS = 1001, SLICE_NS = 200000, CALIBRATIONS = 5 };
 
 /* Of a tag, the blocks behind its first 34 bytes, or that its texts have
-   accents; of a text, its characters, all of the 39 or others among them. */
-enum kind { NONE, FEW, ACCENTS, LONG, MANY, BROKEN, CODE40, MIXED };
+   accents; of a text, its characters, all of the 39 or others among them; of an
+   identifier, its parts: an item alone, of bytes 20 to 7E or of letters up to
+   four bytes long, or an ISIL, an item and so many digits. The last three are
+   refused: a dot in the item, an ordinal above the total, an S. */
+enum kind {
+    NONE, FEW, ACCENTS, LONG, MANY, BROKEN, CODE40, MIXED,
+    ITEM, LETTERS, SET2, SET4, SET6, DOT, ABOVE, OTHER_BANK
+};
 
 static const char *const kind_names[] = {
-    "none", "few", "accents", "long", "many", "broken", "code40", "mixed"
+    "none", "few", "accents", "long", "many", "broken", "code40", "mixed",
+    "item", "letters", "set2", "set4", "set6", "dot", "above", "bank"
 };
 
 static const struct row {
@@ -79,20 +99,22 @@ static const struct row {
     { 32, NONE }, { 112, FEW }, { 112, ACCENTS }, { 112, MANY }, { 256, FEW },
     { 256, ACCENTS }, { 256, MANY }, { 256, BROKEN }, { 2048, FEW },
     { 2048, LONG }, { 2048, MANY }, { 24, CODE40 }, { 255, CODE40 },
-    { 255, MIXED }
+    { 255, MIXED }, { 10, ITEM }, { 23, SET2 }, { 25, SET4 }, { 27, SET6 },
+    { 255, ITEM }, { 255, LETTERS }, { 279, SET6 }, { 27, DOT }, { 27, ABOVE },
+    { 22, OTHER_BANK }
 };
 
 enum { ROWS = sizeof rows / sizeof rows[0] };
 
-enum call { READ, WRITE, EDIT, TO_TEXT, TO_WORDS, CALLS };
+enum call { READ, WRITE, EDIT, TO_TEXT, TO_WORDS, APART, TOGETHER, CALLS };
 
 static const char *const call_names[CALLS] = {
-    "read", "write", "edit", "to_text", "to_words"
+    "read", "write", "edit", "to_text", "to_words", "apart", "together"
 };
 
 enum {
     BROKEN_BYTES = 6,  /* the length of the broken block, the last */
-    TEXT_MAX = 255     /* of the longest text */
+    TEXT_MAX = URP_IDENTIFIER_MAX
 };
 
 struct sheet {
@@ -100,10 +122,20 @@ struct sheet {
     size_t len;
 };
 
-/* The inputs of one row, and the answer to all its calls. Calls take the two of
+/* Elements 1, 3 and 4 of an identifier. */
+struct elements {
+    uint8_t item[URP_ITEM_MAX];
+    size_t item_len;
+    uint8_t isil[URP_ISIL_MAX];
+    size_t isil_len;
+    uint8_t set[URP_SET_MAX];
+    size_t set_len;
+};
+
+/* The inputs of one row, and the answers to its calls. Calls take the two of
    each kind in turn, so that each write and each edit changes the tag. */
 struct inputs {
-    uint32_t answer;
+    uint32_t answers[CALLS];
     size_t tag_len;
     uint8_t locks[URP_LOCKS_MAX];
     struct sheet sheets[2];
@@ -115,6 +147,7 @@ struct inputs {
     size_t text_len;
     uint16_t words[2][TEXT_MAX];
     size_t words_lens[2];
+    struct elements elements[2];
 };
 
 /* What the calls of a row work on and leave. */
@@ -124,6 +157,7 @@ struct outputs {
     uint8_t old[URP_OLD_MAX];
     uint8_t text[3 * TEXT_MAX];
     uint16_t words[TEXT_MAX];
+    struct elements elements;
     size_t len;
     size_t pages;
     size_t place;
@@ -316,6 +350,15 @@ static void make_tags(const struct row *row, const struct library *by,
     }
 }
 
+/* A string's bytes, over and over. */
+static void repeat(uint8_t *bytes, size_t len, const char *again)
+{
+    size_t size = strlen(again), i;
+
+    for (i = 0; i < len; i++)
+        bytes[i] = (uint8_t)again[i % size];
+}
+
 /* A text is one of these over and over. The first 24 characters of a CODE40 one
    are an owner, an identifier and a set; its length is no multiple of 3, so
    that the words do not soon repeat. In a MIXED one a quarter to a half of the
@@ -330,19 +373,95 @@ static void make_texts(const struct row *row, const struct library *by,
         "DK-718500/12.Kbh/a-3.41 b", "US-InU-Mu/2.Vol/b-7;new"
     };
     int which;
-    size_t i;
 
     in->text_len = row->len;
     for (which = 0; which < 2; which++) {
-        const char *again = row->kind == MIXED ? mixed[which] : code40[which];
-        size_t len = strlen(again);
-
-        for (i = 0; i < row->len; i++)
-            in->texts[which][i] = (uint8_t)again[i % len];
+        repeat(in->texts[which], row->len,
+               (row->kind == MIXED ? mixed : code40)[which]);
         if (by->to_words(in->texts[which], row->len, in->words[which],
                          TEXT_MAX, &in->words_lens[which]) != URP_DONE)
             stop("a row's text is refused");
     }
+}
+
+static int has_isil(const struct row *row)
+{
+    return row->kind != ITEM && row->kind != LETTERS;
+}
+
+/* Puts what stands behind the item identifier, and gives its length; sets
+   element 4. */
+static size_t make_set(const struct row *row, int which, uint8_t *set,
+                       char *part)
+{
+    static const struct {
+        int digits;
+        unsigned total, ordinal;
+    } sets[][2] = {
+        { { 1, 3, 1 }, { 1, 9, 0 } },
+        { { 2, 12, 7 }, { 2, 99, 10 } },
+        { { 3, 120, 7 }, { 3, 254, 254 } }
+    };
+    int i = row->kind == SET2 ? 0 : row->kind == SET4 ? 1 : 2;
+    unsigned total = sets[i][which].total, ordinal = sets[i][which].ordinal;
+
+    if (!has_isil(row))
+        return 0;
+    if (row->kind == OTHER_BANK)
+        return (size_t)sprintf(part, ".S");
+    if (row->kind == ABOVE)
+        ordinal = total + 1;
+    set[0] = (uint8_t)total;
+    set[2] = (uint8_t)ordinal;
+    return (size_t)sprintf(part, ".%0*u%0*u", sets[i][which].digits, total,
+                           sets[i][which].digits, ordinal);
+}
+
+/* An identifier of the row's length and its elements: the item identifier takes
+   what the rest leaves. Letters are 51 or 17 bytes over and over, so that none
+   of 255 is cut. */
+static void make_identifier(const struct row *row, int which, uint8_t *text,
+                            struct elements *e)
+{
+    static const char *const isils[2] = { "CH-000134-1", "DK-718500-2" };
+    static const char *const long_isils[2] = {
+        "OCLC-12345678901", "NUKA-Aa/Bb:Cc-Dd"
+    };
+    static const char *const items[2] = { "1000000056-", "LIB-2024/" };
+    static const char *const letters[2] = {
+        "B\303\274cher\342\200\223Regal; "
+        "\304\214\303\255tanka \303\206r\303\270, "
+        "\316\221\316\270\316\256\316\275\316\261 \360\235\204\236; ",
+        "\303\234bergr\303\266\303\237e\342\200\22312"
+    };
+    const char *isil = (row->len > URP_ITEM_MAX ? long_isils : isils)[which];
+    char part[1 + 6 + 1];
+    size_t lead = has_isil(row) ? strlen(isil) + 1 : 0;
+    size_t behind = make_set(row, which, e->set, part);
+
+    e->isil_len = lead > 0 ? lead - 1 : 0;
+    e->item_len = row->len - lead - behind;
+    e->set_len = URP_SET_MAX;
+    memcpy(e->isil, isil, e->isil_len);
+    repeat(e->item, e->item_len,
+           (row->kind == LETTERS ? letters : items)[which]);
+    if (row->kind == DOT)
+        e->item[e->item_len / 2] = '.';
+
+    memcpy(text, e->isil, e->isil_len);
+    if (lead > 0)
+        text[lead - 1] = '.';
+    memcpy(text + lead, e->item, e->item_len);
+    memcpy(text + lead + e->item_len, part, behind);
+}
+
+static void make_identifiers(const struct row *row, struct inputs *in)
+{
+    int which;
+
+    in->text_len = row->len;
+    for (which = 0; which < 2; which++)
+        make_identifier(row, which, in->texts[which], &in->elements[which]);
 }
 
 static int is_text_row(const struct row *row)
@@ -350,12 +469,34 @@ static int is_text_row(const struct row *row)
     return row->kind == CODE40 || row->kind == MIXED;
 }
 
+static int is_identifier_row(const struct row *row)
+{
+    return row->kind >= ITEM;
+}
+
+/* The answers that are no URP_DONE. */
+static void make_answers(const struct row *row, uint32_t *answers)
+{
+    if (row->kind == BROKEN)
+        answers[READ] = URP_BLOCK_CHECKSUM;
+    if (row->kind == DOT)
+        answers[APART] = URP_PARTS;
+    if (row->kind == ABOVE)
+        answers[APART] = URP_FIELD;
+    if (row->kind == OTHER_BANK)
+        answers[APART] = URP_BANK;
+    if (row->kind == DOT || row->kind == ABOVE)
+        answers[TOGETHER] = URP_VALUE;
+}
+
 static void make_inputs(const struct row *row, const struct library *by,
                         struct inputs *in)
 {
     memset(in, 0, sizeof *in);
-    in->answer = row->kind == BROKEN ? URP_BLOCK_CHECKSUM : URP_DONE;
-    if (is_text_row(row))
+    make_answers(row, in->answers);
+    if (is_identifier_row(row))
+        make_identifiers(row, in);
+    else if (is_text_row(row))
         make_texts(row, by, in);
     else
         make_tags(row, by, in);
@@ -364,14 +505,18 @@ static void make_inputs(const struct row *row, const struct library *by,
 /* ---- calls ---- */
 
 /* The calls that are made of a row, from the first to before the end: a broken
-   tag is only read. */
+   tag is only read, and no elements give an S. */
 static int first_call(const struct row *row)
 {
+    if (is_identifier_row(row))
+        return APART;
     return is_text_row(row) ? TO_TEXT : READ;
 }
 
 static int end_of_calls(const struct row *row)
 {
+    if (is_identifier_row(row))
+        return row->kind == OTHER_BANK ? APART + 1 : TOGETHER + 1;
     if (is_text_row(row))
         return TO_WORDS + 1;
     return row->kind == BROKEN ? READ + 1 : EDIT + 1;
@@ -389,6 +534,8 @@ static void make_call(const struct library *lib, enum call call,
                       const struct inputs *in, struct outputs *out, size_t k)
 {
     size_t locks_len = in->tag_len / URP_PAGE;
+    const struct elements *from = &in->elements[k];
+    struct elements *to = &out->elements;
     uint32_t answer = URP_DONE;
 
     switch (call) {
@@ -415,10 +562,21 @@ static void make_call(const struct library *lib, enum call call,
         answer = lib->to_words(in->texts[k], in->text_len, out->words,
                                TEXT_MAX, &out->len);
         break;
+    case APART:
+        answer = lib->apart(in->texts[k], in->text_len, from->isil_len > 0,
+                            to->item, sizeof to->item, to->isil,
+                            sizeof to->isil, to->set, sizeof to->set,
+                            &to->item_len, &to->isil_len, &to->set_len);
+        break;
+    case TOGETHER:
+        answer = lib->together(from->item, from->item_len, from->isil,
+                               from->isil_len, from->set, from->set_len,
+                               out->text, sizeof out->text, &out->len);
+        break;
     case CALLS:
         break;
     }
-    out->wrong |= answer ^ in->answer;
+    out->wrong |= answer ^ in->answers[call];
 }
 
 /* Makes a call `turns` times, the inputs in turn from the first on. */
@@ -433,14 +591,19 @@ static void make_calls(const struct library *lib, enum call call,
 }
 
 /* Whether a call that was made `turns` times has done nothing: a write or edit
-   has changed no page, words have not become the text that they are made of. */
+   has changed no page, words or elements have not become the text that they are
+   made of. */
 static int is_idle(enum call call, const struct inputs *in,
                    const struct outputs *out, size_t turns)
 {
+    if (in->answers[call] != URP_DONE)
+        return 0;
     if (call == WRITE || call == EDIT)
         return out->pages == 0;
-    if (call == TO_TEXT)
+    if (call == TO_TEXT || call == TOGETHER)
         return memcmp(out->text, in->texts[turns - 1], in->text_len) != 0;
+    if (call == APART)
+        return out->elements.item_len != in->elements[turns - 1].item_len;
     return call == TO_WORDS && out->len == 0;
 }
 

@@ -1169,11 +1169,9 @@ static uint32_t take_parts(const struct span *parts, size_t count, size_t item,
 }
 
 uint32_t urp_take_apart(const uint8_t *text, size_t text_len,
-                        uint32_t isil_leads,
-                        uint8_t *item, size_t item_len,
-                        uint8_t *isil, size_t isil_len,
-                        uint8_t *set, size_t set_len,
-                        size_t *item_used, size_t *isil_used,
+                        uint32_t isil_leads, uint8_t *item, size_t item_len,
+                        uint8_t *isil, size_t isil_len, uint8_t *set,
+                        size_t set_len, size_t *item_used, size_t *isil_used,
                         size_t *set_used)
 {
     struct span parts[PARTS_MAX];

@@ -21,10 +21,10 @@ enum {
     STEP = 64        /* bytes that are looked at together; divides the others */
 };
 
-enum call { READ, WRITE, EDIT, TO_TEXT, TO_WORDS, CALLS };
+enum call { READ, WRITE, EDIT, TO_TEXT, TO_WORDS, APART, TOGETHER, CALLS };
 
 static const char *const call_names[CALLS] = {
-    "read", "write", "edit", "to_text", "to_words"
+    "read", "write", "edit", "to_text", "to_words", "apart", "together"
 };
 
 static size_t deepest[CALLS][2];  /* done, refused */
@@ -154,4 +154,25 @@ uint32_t stack_text_to_words(const uint8_t *text, size_t text_len,
 {
     MEASURED(TO_WORDS, urp_text_to_words(text, text_len, words, words_len,
                                          used));
+}
+
+uint32_t stack_take_apart(const uint8_t *text, size_t text_len,
+                          uint32_t isil_leads, uint8_t *item, size_t item_len,
+                          uint8_t *isil, size_t isil_len, uint8_t *set,
+                          size_t set_len, size_t *item_used, size_t *isil_used,
+                          size_t *set_used)
+{
+    MEASURED(APART, urp_take_apart(text, text_len, isil_leads, item, item_len,
+                                   isil, isil_len, set, set_len,
+                                   item_used, isil_used, set_used));
+}
+
+uint32_t stack_put_together(const uint8_t *item, size_t item_len,
+                            const uint8_t *isil, size_t isil_len,
+                            const uint8_t *set, size_t set_len,
+                            uint8_t *text, size_t text_len,
+                            size_t *used)
+{
+    MEASURED(TOGETHER, urp_put_together(item, item_len, isil, isil_len,
+                                        set, set_len, text, text_len, used));
 }

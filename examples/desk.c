@@ -1,338 +1,36 @@
 /* desk.c: a small host for the desk, in C89. It keeps tags in files, one file
    for each tag, and calls the library to list, write, edit and undo them. Of a
-   UHF tag's identifier it makes the words, and reads them.
+   UHF tag's identifier it makes the words and reads them, takes it apart and
+   puts it together, and lays it out on a tag.
    Ends with 0 when the work is done, 1 when the library refused it, and 2 at
    bad usage or a file that cannot be used. */
 #include "urpanella.h"
-#include "urpanella_text.h"
+#include "desk_io.h"
 
 #include <stdio.h>
-#include <stdlib.h>
 #include <string.h>
 
-enum { DONE, REFUSED, TROUBLE };
+/* ---- tags ---- */
 
-/* A tag and its lock map as files hold them. One byte more than is permitted
-   shows the library that a file is too long. */
-struct tag {
-    uint8_t bytes[URP_TAG_MAX + 1];
-    size_t len;
-    uint8_t locks[URP_LOCKS_MAX + 1];
-    size_t locks_len;
-};
-
-/* Room for this many words of a UHF tag, or characters, at once. */
-enum { WORDS_MAX = 512 };
-
-/* An element in sheet form; len 0 is none. */
-struct element {
-    uint32_t number;
-    uint8_t bytes[URP_OLD_MAX + 1];
-    size_t len;
-};
-
-/* ---- what is shown ---- */
-
-static int trouble(const char *about, const char *what)
+/* Reads a tag into a sheet with the room that always suffices. */
+static int read_tag(const struct tag *tag, uint8_t *sheet, size_t *used)
 {
-    fprintf(stderr, "desk: %s: %s\n", about, what);
-    return TROUBLE;
+    size_t place;
+    uint32_t answer = urp_read(tag->bytes, tag->len, sheet, URP_SHEET_MAX,
+                               used, &place);
+
+    return answer == URP_DONE ? DONE : refused_at(answer, &place);
 }
-
-static int refused(uint32_t answer)
-{
-    fprintf(stderr, "refused %lu: %s\n", (unsigned long)answer,
-            urp_refusal_text(answer));
-    return REFUSED;
-}
-
-/* A refusal by a call that gives the place of damage, which is looked at only
-   where the answer comes with one. */
-static int refused_at(uint32_t answer, const size_t *place)
-{
-    if (!URP_HAS_PLACE(answer))
-        return refused(answer);
-    fprintf(stderr, "refused %lu at byte %lu: %s\n", (unsigned long)answer,
-            (unsigned long)*place, urp_refusal_text(answer));
-    return REFUSED;
-}
-
-static void put_hex(FILE *out, const uint8_t *bytes, size_t len)
-{
-    size_t i;
-
-    if (len == 0)
-        fputs("-", out);
-    for (i = 0; i < len; i++)
-        fprintf(out, "%02X", (unsigned)bytes[i]);
-}
-
-/* How many bytes at the beginning of a text a terminal would obey and not show:
-   a control character of one byte or of two, C2 80 to C2 9F. A backslash counts
-   too: it stands before the hex digits of the others. */
-static size_t hidden_at(const uint8_t *text, size_t len)
-{
-    if (text[0] < 0x20 || text[0] == 0x7F || text[0] == '\\')
-        return 1;
-    return len > 1 && text[0] == 0xC2 && text[1] < 0xA0 ? 2 : 0;
-}
-
-/* Shows a text as it is, but each hidden byte as a backslash and two hex
-   digits. */
-static void show_text(const uint8_t *text, size_t len)
-{
-    size_t i, hidden = 0;
-
-    for (i = 0; i < len; i++) {
-        if (hidden == 0)
-            hidden = hidden_at(text + i, len - i);
-        if (hidden == 0) {
-            printf("%c", text[i]);
-        } else {
-            printf("\\%02X", (unsigned)text[i]);
-            hidden--;
-        }
-    }
-    printf("\n");
-}
-
-/* How many bytes at the end of an element are text. */
-static size_t text_of(uint32_t number, size_t len)
-{
-    switch (number) {
-    case URP_ELEMENT_PRIMARY_ITEM:
-    case URP_ELEMENT_OWNER:
-    case URP_ELEMENT_ALTERNATIVE_ITEM: return len;
-    case URP_ELEMENT_ALTERNATIVE_OWNER: return len > 0 ? len - 1 : 0;
-    default: return 0;
-    }
-}
-
-static void show_element(uint32_t number, const uint8_t *bytes, size_t len)
-{
-    size_t text = text_of(number, len);
-
-    printf("%lu ", (unsigned long)number);
-    put_hex(stdout, bytes, len);
-    printf("  (%s)%s", urp_element_name(number), text > 0 ? " " : "");
-    show_text(bytes + len - text, text);
-}
-
-/* Shows a sheet that the library gave. */
-static void show_sheet(const uint8_t *sheet)
-{
-    size_t count = sheet[0] + 256 * (size_t)sheet[1], i;
-
-    printf("elements %lu\n", (unsigned long)count);
-    for (i = 0; i < count; i++) {
-        const uint8_t *entry = sheet + 2 + 4 * i;
-        size_t offset = entry[1] + 256 * (size_t)entry[2];
-
-        show_element(entry[0], sheet + offset, entry[3]);
-    }
-}
-
-/* Shows the pages whose bytes are others than before: those that a host sends
-   to the chip. */
-static void show_changed(const uint8_t *before, const uint8_t *tag, size_t len)
-{
-    size_t at;
-
-    for (at = 0; at < len; at += URP_PAGE)
-        if (memcmp(before + at, tag + at, URP_PAGE) != 0)
-            printf("  page %3lu  %02X %02X %02X %02X\n",
-                   (unsigned long)(at / URP_PAGE), (unsigned)tag[at],
-                   (unsigned)tag[at + 1], (unsigned)tag[at + 2],
-                   (unsigned)tag[at + 3]);
-}
-
-static void show_words(const uint16_t *words, size_t len)
-{
-    size_t i;
-
-    for (i = 0; i < len; i++)
-        printf("%s%04X", i == 0 ? "" : " ", (unsigned)words[i]);
-    printf("\n");
-}
-
-/* ---- files ---- */
-
-/* Reads at most room bytes of a file. */
-static int load(const char *path, uint8_t *bytes, size_t room, size_t *len)
-{
-    FILE *file = fopen(path, "rb");
-    int failed;
-
-    if (file == NULL)
-        return trouble(path, "cannot be opened");
-    *len = fread(bytes, 1, room, file);
-    failed = ferror(file);
-    fclose(file);
-    return failed ? trouble(path, "cannot be read") : DONE;
-}
-
-/* Makes a name beside path by a suffix. */
-static int beside(const char *path, const char *suffix, char *name)
-{
-    if (strlen(path) + strlen(suffix) >= FILENAME_MAX)
-        return trouble(path, "the name is too long");
-    strcpy(name, path);
-    strcat(name, suffix);
-    return DONE;
-}
-
-static int fill(const char *path, const uint8_t *bytes, size_t len)
-{
-    FILE *file = fopen(path, "wb");
-    size_t written;
-
-    if (file == NULL)
-        return trouble(path, "cannot be made");
-    written = fwrite(bytes, 1, len, file);
-    if (fclose(file) == 0 && written == len)
-        return DONE;
-    remove(path);
-    return trouble(path, "cannot be written");
-}
-
-/* Puts the bytes into a new file beside path and gives its name. */
-static int prepare(const char *path, const uint8_t *bytes, size_t len,
-                   char *name)
-{
-    FILE *file;
-
-    if (beside(path, ".new", name) != DONE)
-        return TROUBLE;
-    file = fopen(name, "rb");
-    if (file != NULL) {
-        fclose(file);
-        return trouble(name, "is in the way; look at it and remove it");
-    }
-    return fill(name, bytes, len);
-}
-
-/* Gives the prepared file the name of the one that it replaces. */
-static int replace(const char *path, const char *name)
-{
-    if (rename(name, path) == 0)
-        return DONE;
-    remove(name);
-    return trouble(path, "cannot be replaced");
-}
-
-/* Replaces a file whole or not at all. */
-static int save(const char *path, const uint8_t *bytes, size_t len)
-{
-    char name[FILENAME_MAX];
-
-    if (prepare(path, bytes, len, name) != DONE)
-        return TROUBLE;
-    return replace(path, name);
-}
-
-/* Reads a tag and its lock map; "-" for the lock map means that every page is
-   open. */
-static int load_tag(const char *tag_path, const char *locks_path,
-                    struct tag *tag)
-{
-    if (load(tag_path, tag->bytes, sizeof tag->bytes, &tag->len) != DONE)
-        return TROUBLE;
-    if (strcmp(locks_path, "-") != 0)
-        return load(locks_path, tag->locks, sizeof tag->locks,
-                    &tag->locks_len);
-    tag->locks_len = tag->len / URP_PAGE;
-    memset(tag->locks, 0, tag->locks_len);
-    return DONE;
-}
-
-/* ---- what is typed ---- */
-
-static int digit(char c)
-{
-    static const char digits[] = "0123456789ABCDEFabcdef";
-    const char *at = c == '\0' ? NULL : strchr(digits, c);
-
-    if (at == NULL)
-        return -1;
-    return (int)(at - digits) - (at - digits > 15 ? 6 : 0);
-}
-
-/* Takes hex digits, or "-" for no bytes; false if it is neither. */
-static int take_hex(const char *hex, struct element *e)
-{
-    size_t i, digits = strlen(hex);
-
-    e->len = 0;
-    if (strcmp(hex, "-") == 0)
-        return 1;
-    if (digits == 0 || digits % 2 != 0 || digits / 2 > sizeof e->bytes)
-        return 0;
-    for (i = 0; i < digits; i += 2) {
-        int high = digit(hex[i]), low = digit(hex[i + 1]);
-
-        if (high < 0 || low < 0)
-            return 0;
-        e->bytes[i / 2] = (uint8_t)(16 * high + low);
-    }
-    e->len = digits / 2;
-    return 1;
-}
-
-/* Takes a text behind a "=", as the bytes that it is; else as take_hex. */
-static int take_value(const char *word, struct element *e)
-{
-    if (word[0] != '=')
-        return take_hex(word, e);
-    e->len = strlen(word + 1);
-    if (e->len == 0 || e->len > sizeof e->bytes)
-        return 0;
-    memcpy(e->bytes, word + 1, e->len);
-    return 1;
-}
-
-/* Takes four hex digits; false if it is anything else. */
-static int take_word(const char *hex, uint16_t *word)
-{
-    unsigned number = 0;
-    size_t i;
-
-    if (strlen(hex) != 4)
-        return 0;
-    for (i = 0; i < 4; i++) {
-        if (digit(hex[i]) < 0)
-            return 0;
-        number = 16 * number + (unsigned)digit(hex[i]);
-    }
-    *word = (uint16_t)number;
-    return 1;
-}
-
-/* Takes a decimal number of 32 bits; false if it is none. */
-static int take_number(const char *word, struct element *e)
-{
-    size_t digits = strlen(word);
-    unsigned long number = strtoul(word, NULL, 10);
-
-    if (digits == 0 || digits > 10 || strspn(word, "0123456789") != digits
-        || number > 0xFFFFFFFFUL)
-        return 0;
-    e->number = (uint32_t)number;
-    return 1;
-}
-
-/* ---- the commands ---- */
 
 static int show_tag(const struct tag *tag)
 {
     uint8_t sheet[URP_SHEET_MAX];
-    size_t used, place;
-    uint32_t answer = urp_read(tag->bytes, tag->len, sheet, sizeof sheet,
-                               &used, &place);
+    size_t used;
+    int status = read_tag(tag, sheet, &used);
 
-    if (answer != URP_DONE)
-        return refused_at(answer, &place);
-    show_sheet(sheet);
-    return DONE;
+    if (status == DONE)
+        show_sheet(sheet);
+    return status;
 }
 
 static int list(const char *tag_path)
@@ -345,18 +43,14 @@ static int list(const char *tag_path)
 }
 
 static int write_sheet(const char *tag_path, const char *locks_path,
-                       const char *sheet_path)
+                       const uint8_t *sheet, size_t sheet_len)
 {
     struct tag tag;
-    uint8_t sheet[URP_SHEET_MAX + 1];
-    size_t sheet_len, pages;
+    size_t pages;
     uint32_t answer;
 
-    if (load_tag(tag_path, locks_path, &tag) != DONE
-        || load(sheet_path, sheet, sizeof sheet, &sheet_len) != DONE)
+    if (load_tag(tag_path, locks_path, &tag) != DONE)
         return TROUBLE;
-    if (sheet_len > URP_SHEET_MAX)
-        return trouble(sheet_path, "longer than the sheet of any tag");
     answer = urp_write(sheet, sheet_len, tag.bytes, tag.len,
                        tag.locks, tag.locks_len, &pages);
     if (answer != URP_DONE)
@@ -365,6 +59,19 @@ static int write_sheet(const char *tag_path, const char *locks_path,
         return TROUBLE;
     printf("pages changed %lu\n", (unsigned long)pages);
     return DONE;
+}
+
+static int write_file(const char *tag_path, const char *locks_path,
+                      const char *sheet_path)
+{
+    uint8_t sheet[URP_SHEET_MAX + 1];
+    size_t len;
+
+    if (load(sheet_path, sheet, sizeof sheet, &len) != DONE)
+        return TROUBLE;
+    if (len > URP_SHEET_MAX)
+        return trouble(sheet_path, "longer than the sheet of any tag");
+    return write_sheet(tag_path, locks_path, sheet, len);
 }
 
 /* Keeps the old element in a file beside the tag, as its number and hex. */
@@ -428,7 +135,7 @@ static int edit(const char *tag_path, const char *locks_path,
 {
     struct element e;
 
-    if (!take_number(number, &e))
+    if (!take_number(number, &e.number))
         return trouble(number, "not an element number");
     if (!take_value(value, &e))
         return trouble(value, "not 1 to 256 bytes, in hex or as text behind =,"
@@ -455,10 +162,16 @@ static int undo(const char *tag_path, const char *locks_path)
         return trouble(name, "not what an edit leaves");
     *blank = '\0';
     *end = '\0';
-    if (!take_number(line, &e) || !take_hex(blank + 1, &e))
+    if (!take_number(line, &e.number) || !take_hex(blank + 1, &e))
         return trouble(name, "not what an edit leaves");
     return set_element(tag_path, locks_path, &e);
 }
+
+/* ---- the identifier of a UHF tag ---- */
+
+/* The elements of an identifier, and the usage that a sheet needs beside them,
+   in the order of their numbers. */
+enum { ITEM, ISIL, SET, USAGE, ELEMENTS };
 
 static int make_words(const char *text)
 {
@@ -477,24 +190,142 @@ static int make_words(const char *text)
 }
 
 /* Reads words given as four hex digits each. */
-static int read_words(int count, char **hex)
+static int read_words(int count, char **hex, struct text *text)
 {
     uint16_t words[WORDS_MAX];
-    uint8_t text[3 * WORDS_MAX];
-    size_t used;
     uint32_t answer;
+
+    if (take_words(count, hex, words) != DONE)
+        return TROUBLE;
+    answer = urp_words_to_text(words, (size_t)count, text->bytes,
+                               sizeof text->bytes, &text->len);
+    return answer == URP_DONE ? DONE : refused(answer);
+}
+
+static int show_words_text(int count, char **hex)
+{
+    struct text text;
+    int status = read_words(count, hex, &text);
+
+    if (status == DONE)
+        show_text(text.bytes, text.len);
+    return status;
+}
+
+/* Takes an identifier apart into elements 1, 3 and 4. */
+static int take_apart(const uint8_t *text, size_t len, uint32_t isil_leads,
+                      struct element *elements)
+{
+    struct element *item = &elements[ITEM], *isil = &elements[ISIL];
+    struct element *set = &elements[SET];
+    uint32_t answer = urp_take_apart(text, len, isil_leads,
+                                     item->bytes, sizeof item->bytes,
+                                     isil->bytes, sizeof isil->bytes,
+                                     set->bytes, sizeof set->bytes,
+                                     &item->len, &isil->len, &set->len);
+
+    item->number = URP_ELEMENT_PRIMARY_ITEM;
+    isil->number = URP_ELEMENT_OWNER;
+    set->number = URP_ELEMENT_SET;
+    return answer == URP_DONE ? DONE : refused(answer);
+}
+
+static int apart(const char *lead, const char *text)
+{
+    struct element elements[ELEMENTS];
+    uint32_t isil_leads;
     int i;
 
-    if (count > WORDS_MAX)
-        return trouble("words", "more than 512");
-    for (i = 0; i < count; i++)
-        if (!take_word(hex[i], &words[i]))
-            return trouble(hex[i], "not a word of four hex digits");
-    answer = urp_words_to_text(words, (size_t)count, text, sizeof text, &used);
+    if (take_lead(lead, &isil_leads) != DONE)
+        return TROUBLE;
+    if (take_apart((const uint8_t *)text, strlen(text), isil_leads, elements)
+        != DONE)
+        return REFUSED;
+    for (i = ITEM; i <= SET; i++)
+        show_element(elements[i].number, elements[i].bytes, elements[i].len);
+    return DONE;
+}
+
+/* Puts elements 1, 3 and 4 together and shows the identifier. */
+static int put_together(const struct element *elements)
+{
+    const struct element *item = &elements[ITEM], *isil = &elements[ISIL];
+    const struct element *set = &elements[SET];
+    uint8_t text[URP_IDENTIFIER_MAX];
+    size_t used;
+    uint32_t answer = urp_put_together(item->bytes, item->len,
+                                       isil->bytes, isil->len,
+                                       set->bytes, set->len,
+                                       text, sizeof text, &used);
+
     if (answer != URP_DONE)
         return refused(answer);
     show_text(text, used);
     return DONE;
+}
+
+/* Each element as a clerk types it; ISIL "-" is none. */
+static int together(const char *item, const char *isil, const char *total,
+                    const char *ordinal)
+{
+    struct element elements[ELEMENTS];
+
+    if (!take_text(item, &elements[ITEM])
+        || !take_text(strcmp(isil, "-") == 0 ? "" : isil, &elements[ISIL]))
+        return trouble("ITEM or ISIL", "more than 256 bytes");
+    if (!take_set(total, ordinal, &elements[SET]))
+        return trouble("TOTAL or ORDINAL", "not a number of up to 65535");
+    return put_together(elements);
+}
+
+/* Makes a sheet of elements, without the empty ones, and gives its length. */
+static size_t make_sheet(const struct element *elements, uint8_t *sheet)
+{
+    size_t entries = 0, at, i;
+    uint8_t *entry = sheet + 2;
+
+    for (i = 0; i < ELEMENTS; i++)
+        entries += elements[i].len > 0;
+    put_low_first(sheet, entries);
+    at = 2 + 4 * entries;
+    for (i = 0; i < ELEMENTS; i++) {
+        const struct element *e = &elements[i];
+
+        if (e->len == 0)
+            continue;
+        entry[0] = (uint8_t)e->number;
+        put_low_first(entry + 1, at);
+        entry[3] = (uint8_t)e->len;
+        memcpy(sheet + at, e->bytes, e->len);
+        entry += 4;
+        at += e->len;
+    }
+    return at;
+}
+
+/* Lays out on a tag what the words of a UHF tag say, and a usage, which they do
+   not. */
+static int copy(const char *tag_path, const char *locks_path,
+                const char *usage, const char *lead, int count, char **hex)
+{
+    struct element elements[ELEMENTS];
+    struct text text;
+    uint8_t sheet[URP_SHEET_MAX];
+    uint32_t isil_leads;
+    int status;
+
+    if (take_usage(usage, &elements[USAGE]) != DONE
+        || take_lead(lead, &isil_leads) != DONE)
+        return TROUBLE;
+    status = read_words(count, hex, &text);
+    if (status == DONE)
+        status = take_apart(text.bytes, text.len, isil_leads, elements);
+    if (status == DONE)
+        status = write_sheet(tag_path, locks_path, sheet,
+                             make_sheet(elements, sheet));
+    if (status == DONE)
+        show_sheet(sheet);
+    return status;
 }
 
 /* ---- the demonstration ---- */
@@ -504,6 +335,43 @@ static const uint8_t whole_sheet[] = {
     1, 14, 0, 2,  4, 16, 0, 4,  5, 20, 0, 1,        /* 1, 4 and 5 */
     0x42, 0x31,  0x01, 0x00, 0x01, 0x00,  0x10      /* B1; 1 of 1; usage 1.0 */
 };
+
+/* Writes a sheet on a blank tag and shows the pages to send. */
+static int demo_write(struct tag *tag, const uint8_t *sheet, size_t len)
+{
+    struct tag blank;
+    size_t pages;
+    uint32_t answer;
+
+    memset(tag, 0, sizeof *tag);
+    tag->len = 36;
+    tag->locks_len = tag->len / URP_PAGE;
+    blank = *tag;
+    answer = urp_write(sheet, len, tag->bytes, tag->len, tag->locks,
+                       tag->locks_len, &pages);
+    if (answer != URP_DONE)
+        return refused(answer);
+    printf("write  on a blank tag of 36 bytes: pages changed %lu\n",
+           (unsigned long)pages);
+    show_changed(blank.bytes, tag->bytes, tag->len);
+    return DONE;
+}
+
+/* Reads the sheet that was written. */
+static int demo_read(const struct tag *tag, const uint8_t *written, size_t len)
+{
+    uint8_t sheet[URP_SHEET_MAX];
+    size_t used;
+
+    if (read_tag(tag, sheet, &used) != DONE)
+        return REFUSED;
+    if (used != len || memcmp(sheet, written, used) != 0)
+        return trouble("demo", "another sheet was read than written");
+    printf("read   the sheet that was written, %lu bytes: ",
+           (unsigned long)used);
+    show_sheet(sheet);
+    return DONE;
+}
 
 /* Sets an element and shows what the call gave. */
 static int demo_edit(struct tag *tag, const struct element *e,
@@ -581,70 +449,74 @@ static int demo_accent(struct tag *tag, const struct tag *start)
 }
 
 /* The words of an identifier, and the identifier back. */
-static int demo_words(void)
+static int demo_words(const char *text, struct text *back)
 {
-    static const char text[] = "CH-000134-1.12345678.31";
-    uint16_t words[sizeof text - 1];
-    uint8_t back[3 * (sizeof text - 1)];
-    size_t count, used;
+    uint16_t words[WORDS_MAX];
+    size_t count;
     uint32_t answer = urp_text_to_words((const uint8_t *)text, strlen(text),
-                                        words, strlen(text), &count);
+                                        words, WORDS_MAX, &count);
 
     if (answer != URP_DONE)
         return refused(answer);
     printf("words  %s on a UHF tag: ", text);
     show_words(words, count);
-    answer = urp_words_to_text(words, count, back, 3 * count, &used);
+    answer = urp_words_to_text(words, count, back->bytes, sizeof back->bytes,
+                               &back->len);
     if (answer != URP_DONE)
         return refused(answer);
-    if (used != strlen(text) || memcmp(back, text, used) != 0)
+    if (back->len != strlen(text) || memcmp(back->bytes, text, back->len) != 0)
         return trouble("demo", "another text was read than written");
     printf("text   of these words: ");
-    show_text(back, used);
+    show_text(back->bytes, back->len);
     return DONE;
+}
+
+/* An identifier that an ISIL leads, from the words of a UHF tag to an HF tag,
+   with a usage beside it, and put together again. */
+static int demo_copy(void)
+{
+    struct element elements[ELEMENTS];
+    struct tag tag;
+    struct text text;
+    uint8_t sheet[URP_SHEET_MAX];
+    size_t len;
+
+    if (demo_words("CH-000134-1.12345678.31", &text) != DONE
+        || take_apart(text.bytes, text.len, 1, elements) != DONE
+        || take_usage("10", &elements[USAGE]) != DONE)
+        return REFUSED;
+    len = make_sheet(elements, sheet);
+    if (demo_write(&tag, sheet, len) != DONE
+        || demo_read(&tag, sheet, len) != DONE)
+        return REFUSED;
+    printf("text   of 3, 1 and 4 put together: ");
+    return put_together(elements);
 }
 
 static int demo(void)
 {
     struct tag tag, start;
-    uint8_t sheet[URP_SHEET_MAX];
-    size_t pages, used, place;
-    uint32_t answer;
-    int status;
+    int status = demo_write(&tag, whole_sheet, sizeof whole_sheet);
 
-    memset(&tag, 0, sizeof tag);
-    tag.len = 36;
-    tag.locks_len = tag.len / URP_PAGE;
+    if (status == DONE)
+        status = demo_read(&tag, whole_sheet, sizeof whole_sheet);
     start = tag;
-    answer = urp_write(whole_sheet, sizeof whole_sheet, tag.bytes, tag.len,
-                       tag.locks, tag.locks_len, &pages);
-    if (answer != URP_DONE)
-        return refused(answer);
-    printf("write  on a blank tag of 36 bytes: pages changed %lu\n",
-           (unsigned long)pages);
-    show_changed(start.bytes, tag.bytes, tag.len);
-
-    answer = urp_read(tag.bytes, tag.len, sheet, sizeof sheet, &used, &place);
-    if (answer != URP_DONE)
-        return refused_at(answer, &place);
-    if (used != sizeof whole_sheet || memcmp(sheet, whole_sheet, used) != 0)
-        return trouble("demo", "another sheet was read than written");
-    printf("read   the sheet that was written, %lu bytes: ",
-           (unsigned long)used);
-    show_sheet(sheet);
-    start = tag;
-    status = demo_edits(&tag, &start);
+    if (status == DONE)
+        status = demo_edits(&tag, &start);
     if (status == DONE)
         status = demo_accent(&tag, &start);
-    return status == DONE ? demo_words() : status;
+    return status == DONE ? demo_copy() : status;
 }
 
 static int usage(void)
 {
     fputs("usage: desk list TAG | write TAG LOCKS SHEET"
           " | edit TAG LOCKS NUMBER HEX|=TEXT | undo TAG LOCKS"
-          " | words TEXT | text WORD.. | demo"
-          "  (LOCKS - for all open, HEX - to remove)\n", stderr);
+          " | words TEXT | text WORD.. | apart isil|item TEXT"
+          " | together ITEM ISIL TOTAL ORDINAL"
+          " | copy TAG LOCKS USAGE isil|item WORD.. | demo"
+          "  (LOCKS - for all open, HEX - to remove, ISIL - for none)\n",
+          stderr);
     return TROUBLE;
 }
 
@@ -653,7 +525,7 @@ static int run(int words, char **word)
     if (words == 2 && strcmp(word[0], "list") == 0)
         return list(word[1]);
     if (words == 4 && strcmp(word[0], "write") == 0)
-        return write_sheet(word[1], word[2], word[3]);
+        return write_file(word[1], word[2], word[3]);
     if (words == 5 && strcmp(word[0], "edit") == 0)
         return edit(word[1], word[2], word[3], word[4]);
     if (words == 3 && strcmp(word[0], "undo") == 0)
@@ -661,7 +533,13 @@ static int run(int words, char **word)
     if (words == 2 && strcmp(word[0], "words") == 0)
         return make_words(word[1]);
     if (words >= 2 && strcmp(word[0], "text") == 0)
-        return read_words(words - 1, word + 1);
+        return show_words_text(words - 1, word + 1);
+    if (words == 3 && strcmp(word[0], "apart") == 0)
+        return apart(word[1], word[2]);
+    if (words == 5 && strcmp(word[0], "together") == 0)
+        return together(word[1], word[2], word[3], word[4]);
+    if (words >= 6 && strcmp(word[0], "copy") == 0)
+        return copy(word[1], word[2], word[3], word[4], words - 5, word + 5);
     if (words == 1 && strcmp(word[0], "demo") == 0)
         return demo();
     return usage();

@@ -25,7 +25,8 @@ URP_HERE const char *urp_refusal_text(uint32_t answer)
     case URP_ROOM: return "room: the buffer for the result is too short";
     case URP_CONTENT: return "content: the content parameter is not 1";
     case URP_CHECK: return "check: the CRC differs";
-    case URP_FIELD: return "field: a field of the tag breaks its form";
+    case URP_FIELD: return "field: a field of the tag, or a part of the "
+                           "identifier, breaks its form";
     case URP_MISMATCH: return "mismatch: usage, marker and block 1 disagree";
     case URP_SHEET: return "sheet: header, order, offsets or end are wrong";
     case URP_VALUE: return "value: unknown number, bad value, 4 or 5 missing";
@@ -41,6 +42,8 @@ URP_HERE const char *urp_refusal_text(uint32_t answer)
     case URP_BLOCK_SECOND: return "block: it is a second block 1";
     case URP_WORD: return "word: a word has no meaning";
     case URP_CHARACTER: return "character: a character is above 7F";
+    case URP_PARTS: return "parts: the identifier has too few or too many";
+    case URP_BANK: return "bank: the set information is in another bank";
     default: return "not an answer of this library";
     }
 }

@@ -4,7 +4,7 @@
    the place is that of the first damaged block, and is given with no other
    answer; the text of elements is UTF-8, and its limits count bytes; words and
    their text are as its table, sums and rules say, and fit into the room that
-   it says suffices.
+   it says suffices; so are an identifier and its elements.
    Prints what is wrong, or the first of it, and ends with 1; or one line, and
    0. */
 #include "urpanella.h"
@@ -648,6 +648,272 @@ static void uhf_words(void)
     words_refused();
 }
 
+/* ---- UHF identifier ---- */
+
+/* Elements 1, 3 and 4 in the form of the sheet, with room to spare. */
+enum { ITEM, ISIL, SET, ELEMENTS };
+
+struct elements {
+    uint8_t bytes[ELEMENTS][URP_ITEM_MAX + SPARE];
+    size_t lens[ELEMENTS];
+};
+
+static const size_t sufficing[ELEMENTS] = {
+    URP_ITEM_MAX, URP_ISIL_MAX, URP_SET_MAX
+};
+
+static void make_elements(struct elements *e, const char *item,
+                          const char *isil, unsigned total, unsigned ordinal)
+{
+    memset(e, 0, sizeof *e);
+    e->lens[ITEM] = strlen(item);
+    memcpy(e->bytes[ITEM], item, e->lens[ITEM]);
+    e->lens[ISIL] = strlen(isil);
+    memcpy(e->bytes[ISIL], isil, e->lens[ISIL]);
+    e->lens[SET] = 4;
+    e->bytes[SET][0] = (uint8_t)total;
+    e->bytes[SET][2] = (uint8_t)ordinal;
+}
+
+/* A buffer with this much room; null will do for none. */
+static uint8_t *lent(uint8_t *buffer, size_t room)
+{
+    return room == 0 ? NULL : buffer;
+}
+
+/* Takes an identifier apart with this much room for each element. The answer is
+   the right one; the elements are those given when it is done, and nothing has
+   changed when it is not. */
+static void try_apart(const void *text, size_t len, uint32_t isil_leads,
+                      const size_t *room, uint32_t right,
+                      const struct elements *e)
+{
+    struct elements out;
+    int i;
+
+    memset(&out, PRESET_BYTE, sizeof out);
+    expect(urp_take_apart((const uint8_t *)text, len, isil_leads,
+                          lent(out.bytes[ITEM], room[ITEM]), room[ITEM],
+                          lent(out.bytes[ISIL], room[ISIL]), room[ISIL],
+                          lent(out.bytes[SET], room[SET]), room[SET],
+                          &out.lens[ITEM], &out.lens[ISIL], &out.lens[SET])
+               == right, "an identifier gets another answer");
+    if (right != URP_DONE) {
+        expect(is_untouched(&out, 0, sizeof out),
+               "an identifier that is refused changes something");
+        return;
+    }
+    for (i = ITEM; i < ELEMENTS; i++)
+        expect(out.lens[i] == e->lens[i]
+                   && memcmp(out.bytes[i], e->bytes[i], e->lens[i]) == 0
+                   && is_untouched(out.bytes[i], e->lens[i],
+                                   sizeof out.bytes[i]),
+               "an identifier has other elements");
+}
+
+/* Puts elements together in the same way. */
+static void try_together(const struct elements *e, size_t room, uint32_t right,
+                         const char *text)
+{
+    uint8_t out[URP_IDENTIFIER_MAX + SPARE];
+    size_t used = PRESET, filled = right == URP_DONE ? strlen(text) : 0;
+
+    memset(out, PRESET_BYTE, sizeof out);
+    expect(urp_put_together(e->bytes[ITEM], e->lens[ITEM],
+                            e->lens[ISIL] == 0 ? NULL : e->bytes[ISIL],
+                            e->lens[ISIL], e->bytes[SET], e->lens[SET],
+                            lent(out, room), room, &used)
+               == right, "elements get another answer");
+    expect(used == (right == URP_DONE ? filled : (size_t)PRESET)
+               && memcmp(out, text, filled) == 0,
+           "elements are another identifier, or a refusal gives a length");
+    expect(is_untouched(out, filled, sizeof out),
+           "putting together changes bytes that are not the identifier");
+}
+
+/* An identifier and its elements, both ways: with the room that always
+   suffices, with exact room, and with one byte less anywhere. */
+static void try_identifier(const char *text, const struct elements *e)
+{
+    uint32_t isil_leads = e->lens[ISIL] > 0;
+    size_t room[ELEMENTS], len = strlen(text);
+    int i;
+
+    try_together(e, URP_IDENTIFIER_MAX, URP_DONE, text);
+    try_together(e, len, URP_DONE, text);
+    try_together(e, len - 1, URP_ROOM, text);
+    try_together(e, 0, URP_ROOM, text);
+    try_apart(text, len, isil_leads, sufficing, URP_DONE, e);
+    try_apart(text, len, isil_leads, e->lens, URP_DONE, e);
+    for (i = ITEM; i < ELEMENTS; i++) {
+        memcpy(room, e->lens, sizeof room);
+        if (room[i] == 0)
+            continue;
+        room[i]--;
+        try_apart(text, len, isil_leads, room, URP_ROOM, e);
+    }
+}
+
+/* The header's examples, and the longest identifier. Any number but 0 says that
+   an ISIL leads, and that alone decides. */
+static void examples(void)
+{
+    static const uint32_t yes[] = { 1, 2, 0x100, 0x80000000, 0xFFFFFFFF };
+    char item[URP_ITEM_MAX + 1], text[URP_IDENTIFIER_MAX + 1];
+    struct elements e;
+    size_t i;
+
+    make_elements(&e, "12345678", "CH-000134-1", 3, 1);
+    try_identifier(header_text, &e);
+    for (i = 0; i < sizeof yes / sizeof yes[0]; i++)
+        try_apart(header_text, strlen(header_text), yes[i], sufficing,
+                  URP_DONE, &e);
+    try_apart(header_text, strlen(header_text), 0, sufficing, URP_PARTS, &e);
+    make_elements(&e, "31", "DK-1", 0, 0);
+    try_identifier("DK-1.31", &e);
+    make_elements(&e, "DK-1", "", 3, 1);
+    try_identifier("DK-1.31", &e);
+    make_elements(&e, "K\303\270benhavn", "", 120, 7);
+    try_identifier("K\303\270benhavn.120007", &e);
+
+    memset(item, 'x', URP_ITEM_MAX);
+    item[URP_ITEM_MAX] = '\0';
+    make_elements(&e, item, "OCLC-12345678901", 255, 255);
+    sprintf(text, "OCLC-12345678901.%s.255255", item);
+    expect(strlen(text) == URP_IDENTIFIER_MAX
+               && e.lens[ISIL] == URP_ISIL_MAX,
+           "the longest identifier has another length");
+    try_identifier(text, &e);
+}
+
+/* Every total and ordinal in this count of digits each: set information if the
+   total is from first to last and the ordinal no more. Of three digits, which
+   are many, a few ordinals for each total. */
+static void set_digits(int digits, unsigned first, unsigned last)
+{
+    unsigned end = digits == 1 ? 10 : digits == 2 ? 100 : 1000;
+    unsigned total, ordinal;
+    struct elements e;
+    char text[16];
+
+    for (total = 0; total < end; total++)
+        for (ordinal = 0; ordinal < end; ordinal++) {
+            if (digits == 3 && ordinal % 97 != 0 && ordinal + 1 != total
+                && ordinal != total && ordinal != total + 1)
+                continue;
+            sprintf(text, "x.%0*u%0*u", digits, total, digits, ordinal);
+            make_elements(&e, "x", "", total, ordinal);
+            if (total >= first && total <= last && ordinal <= total)
+                try_identifier(text, &e);
+            else
+                try_apart(text, strlen(text), 0, sufficing, URP_FIELD, &e);
+        }
+}
+
+/* 22, then 6, then 23, then 2. */
+static void apart_refused(void)
+{
+    static const struct {
+        uint32_t isil_leads;
+        uint32_t answer;
+        const char *texts[24];  /* up to a null */
+    } tried[] = {
+        { 0, URP_PARTS, { "..", "\200..S", "x.3.1" } },
+        { 1, URP_PARTS, { "", "x", "S", "...", "dk.x.S." } },
+        { 0, URP_FIELD,
+          { "", ".", "x.", ".31", ".S", "\303.S", "x\037", "x\177.31", "x.s",
+            "x.SS", "x.3S", "x.3", "x.120", "x.12345", "x.1200012",
+            "x.11111111", "x.3/", "x.3:", "x.991/", "x.991:", "x. 1", "x.-1" } },
+        { 1, URP_FIELD,
+          { "..", "dk-1.x", "DK-1..S", ".x.S", "DKDKD-1.x", "DK-1.x.",
+            "DK-123456789012.x", "DK-1.\200" } },
+        { 0, URP_BANK, { "x.S", "S.S", "DK-1.S" } },
+        { 1, URP_BANK, { "DK-1.x.S", "DK-1.S.S" } }
+    };
+    static const size_t none[ELEMENTS] = { 0, 0, 0 };
+    struct elements e;
+    const char *const *text;
+    size_t i;
+
+    memset(&e, 0, sizeof e);
+    for (i = 0; i < sizeof tried / sizeof tried[0]; i++)
+        for (text = tried[i].texts; *text != NULL; text++) {
+            try_apart(*text, strlen(*text), tried[i].isil_leads, sufficing,
+                      tried[i].answer, &e);
+            try_apart(*text, strlen(*text), tried[i].isil_leads, none,
+                      tried[i].answer, &e);
+        }
+    try_apart(NULL, 0, 0, none, URP_FIELD, &e);
+    try_apart("x", 1, 0, none, URP_ROOM, &e);
+    /* S elsewhere is an item identifier; before .S it is without the two */
+    make_elements(&e, "S", "", 0, 0);
+    try_identifier("S", &e);
+    try_apart("S.S", 1, 0, sufficing, URP_DONE, &e);
+    make_elements(&e, "S", "DK-1", 0, 0);
+    try_identifier("DK-1.S", &e);
+}
+
+/* An item identifier of 256 bytes is refused both ways, and before 23 and 2. */
+static void too_long(void)
+{
+    char text[URP_ITEM_MAX + 1 + sizeof ".S"];
+    struct elements e;
+
+    memset(text, 'x', sizeof text);
+    strcpy(text + URP_ITEM_MAX + 1, ".S");
+    make_elements(&e, "", "", 0, 0);
+    memset(e.bytes[ITEM], 'x', URP_ITEM_MAX + 1);
+    e.lens[ITEM] = URP_ITEM_MAX + 1;
+    try_apart(text, URP_ITEM_MAX + 1, 0, sufficing, URP_FIELD, &e);
+    try_apart(text, strlen(text), 0, sufficing, URP_FIELD, &e);
+    try_apart(text + 1, strlen(text + 1), 0, sufficing, URP_BANK, &e);
+    try_together(&e, 0, URP_VALUE, "");
+    try_together(&e, URP_IDENTIFIER_MAX, URP_VALUE, "");
+}
+
+/* 9 for an element by itself; room is not looked at before. */
+static void together_refused(void)
+{
+    static const struct {
+        const char *item;
+        const char *isil;
+        uint8_t set[5];
+        size_t set_len;
+    } tried[] = {
+        { "", "", { 0 }, 4 }, { "", "DK-1", { 3, 0, 1 }, 4 },
+        { "x.y", "", { 0 }, 4 }, { ".", "DK-1", { 0 }, 4 },
+        { "x.", "", { 3, 0, 1 }, 4 }, { "\303", "", { 0 }, 4 },
+        { "x\037", "", { 0 }, 4 }, { "\177", "", { 0 }, 4 },
+        { "x", "dk-1", { 0 }, 4 }, { "x", "DK", { 0 }, 4 },
+        { "x", "DK-", { 0 }, 4 }, { "x", "DK-1.", { 0 }, 4 },
+        { "x", "", { 3, 0, 4 }, 4 }, { "x", "", { 0, 0, 1 }, 4 },
+        { "x", "", { 0, 1 }, 4 }, { "x", "", { 3, 1, 1 }, 4 },
+        { "x", "", { 3, 0, 1, 1 }, 4 }, { "x", "", { 0 }, 0 },
+        { "x", "", { 3, 0, 1 }, 3 }, { "x", "", { 3, 0, 1 }, 5 }
+    };
+    struct elements e;
+    size_t i;
+
+    for (i = 0; i < sizeof tried / sizeof tried[0]; i++) {
+        make_elements(&e, tried[i].item, tried[i].isil, 0, 0);
+        memcpy(e.bytes[SET], tried[i].set, sizeof tried[i].set);
+        e.lens[SET] = tried[i].set_len;
+        try_together(&e, URP_IDENTIFIER_MAX, URP_VALUE, "");
+        try_together(&e, 0, URP_VALUE, "");
+    }
+}
+
+static void uhf_identifier(void)
+{
+    examples();
+    set_digits(1, 1, 9);
+    set_digits(2, 10, 99);
+    set_digits(3, 100, 255);
+    apart_refused();
+    too_long();
+    together_refused();
+}
+
 int main(void)
 {
     blocks();
@@ -655,8 +921,10 @@ int main(void)
     places();
     texts();
     uhf_words();
+    uhf_identifier();
     if (wrong > 0)
         return 1;
-    puts("blocks, pages, places, texts and words are as the header says");
+    puts("blocks, pages, places, texts, words and identifiers are as the header"
+         " says");
     return 0;
 }

@@ -12,7 +12,8 @@ static const uint32_t answers[] = {
     URP_DONE, URP_SIZE, URP_ROOM, URP_CONTENT, URP_CHECK, URP_FIELD,
     URP_MISMATCH, URP_SHEET, URP_VALUE, URP_CLASH, URP_LARGE, URP_LOCKED,
     URP_LOOSE, URP_OFFSET, URP_BLOCK_LENGTH, URP_BLOCK_END, URP_BLOCK_ID,
-    URP_BLOCK_CHECKSUM, URP_BLOCK_SECOND, URP_WORD, URP_CHARACTER
+    URP_BLOCK_CHECKSUM, URP_BLOCK_SECOND, URP_WORD, URP_CHARACTER, URP_PARTS,
+    URP_BANK
 };
 
 static const uint32_t elements[] = {
@@ -65,14 +66,14 @@ static int wrong_texts(const char *what, text_call *text,
     return wrong;
 }
 
-/* The answers are 0 to 21 without 5, as documents 01 and 02 have them. */
+/* The answers are 0 to 23 without 5, as documents 01 and 02 have them. */
 static int are_right_answers(void)
 {
     uint32_t number;
 
     for (number = 0; number < TRIED; number++)
         if (is_listed(number, answers, ANSWERS)
-            != (number <= 21 && number != 5))
+            != (number <= 23 && number != 5))
             return 0;
     return 1;
 }
@@ -83,7 +84,7 @@ int main(void)
         + wrong_texts("element", urp_element_name, elements, ELEMENTS);
 
     if (!are_right_answers()) {
-        puts("texts: the answers are not 0 to 21 without 5");
+        puts("texts: the answers are not 0 to 23 without 5");
         wrong++;
     }
     if (wrong > 0)

@@ -1,7 +1,7 @@
 //! The calls of `urpanella.h` by the independent program, for `bench.c`, which passes no null pointer.
 
 use independent::model::refusal::Refusal;
-use independent::model::{editing, reading, text_to_words, words_to_text, writing, Edited};
+use independent::model::{editing, put_together, reading, take_apart, text_to_words, words_to_text, writing, Edited};
 use std::slice::{from_raw_parts, from_raw_parts_mut};
 
 /// # Safety
@@ -88,6 +88,49 @@ pub unsafe extern "C" fn rust_text_to_words(
 ) -> u32 {
     let outcome = text_to_words(from_raw_parts(text, text_len), from_raw_parts_mut(words, words_len));
     answer(outcome.map_err(Refusal::from), |count| *used = count, |_| ())
+}
+
+/// # Safety
+/// As `urpanella.h` asks of `urp_take_apart`.
+#[no_mangle]
+pub unsafe extern "C" fn rust_take_apart(
+    text: *const u8,
+    text_len: usize,
+    isil_leads: u32,
+    item: *mut u8,
+    item_len: usize,
+    isil: *mut u8,
+    isil_len: usize,
+    set: *mut u8,
+    set_len: usize,
+    item_used: *mut usize,
+    isil_used: *mut usize,
+    set_used: *mut usize,
+) -> u32 {
+    let item = from_raw_parts_mut(item, item_len);
+    let (isil, set) = (from_raw_parts_mut(isil, isil_len), from_raw_parts_mut(set, set_len));
+    let outcome = take_apart(from_raw_parts(text, text_len), isil_leads, [item, isil, set]);
+    let store = |lengths: [usize; 3]| [*item_used, *isil_used, *set_used] = lengths;
+    answer(outcome.map_err(Refusal::from), store, |_| ())
+}
+
+/// # Safety
+/// As `urpanella.h` asks of `urp_put_together`.
+#[no_mangle]
+pub unsafe extern "C" fn rust_put_together(
+    item: *const u8,
+    item_len: usize,
+    isil: *const u8,
+    isil_len: usize,
+    set: *const u8,
+    set_len: usize,
+    text: *mut u8,
+    text_len: usize,
+    used: *mut usize,
+) -> u32 {
+    let (item, isil) = (from_raw_parts(item, item_len), from_raw_parts(isil, isil_len));
+    let outcome = put_together(item, isil, from_raw_parts(set, set_len), from_raw_parts_mut(text, text_len));
+    answer(outcome.map_err(Refusal::from), |length| *used = length, |_| ())
 }
 
 /// The number for C. The results are stored only where the work is done, and the place only where the refusal has one.
