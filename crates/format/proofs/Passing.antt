@@ -3,7 +3,7 @@ use mathlib.Core.Path.{_≡_, refl, sym, ap, _∙_}
 use Prim.Native.Nat.{ℕ, suc, _+_, _≤_, _<_}
 use native.Mathlib.Omega.{arith}
 use native.Mathlib.Numerals.{add-one}
-use mathlib.Core.Bool.{Bool, true, false, _&&_}
+use mathlib.Core.Bool.{Bool, true, false, _&&_, and-assoc, and-true}
 use mathlib.Core.List.{List}
 use lib.ListN.{length, drop, getD, drop-of-length-le}
 use lib.Seq.{drop-cons}
@@ -37,3 +37,23 @@ module _ (f : ℕ → Bool) (s : List ℕ) where
   pub passed-at : (i : ℕ) → all f s ≡ true → i < length s → f (getD s i 0) ≡ true
   unfolding all
   passed-at i e h = and-l (f (getD s i 0)) _ (sym (ap (all f) (drop-cons s i 0 h)) ∙ all-drop f i s e)
+
+-- a loop that goes on past a byte that fails: `passed` is whether those before i pass, and with those from i on that decides
+pub record PassedBefore (f : ℕ → Bool) (s : List ℕ) (i : ℕ) (passed : Bool) : Type 0 where
+  pub inside : i ≤ length s
+  pub rest : passed && all f (drop i s) ≡ all f s
+
+module _ (f : ℕ → Bool) (s : List ℕ) where
+  pub before-start : PassedBefore f s 0 true
+  before-start = record { inside = omega arith; rest = refl }
+
+  pub before-on : (i : ℕ) (passed : Bool) → PassedBefore f s i passed → i < length s → PassedBefore f s (i + 1) (passed && f (getD s i 0))
+  before-on i passed p h =
+      record {
+        inside = omega arith;
+        rest = rw add-one (and-assoc passed (f (getD s i 0)) (all f (drop (suc i) s)) ∙ sym (ap (λ (t : Bool). passed && t) (all-cons f s i (f (getD s i 0)) h refl)) ∙ p .rest);
+      }
+
+  pub before-all : (i : ℕ) (passed : Bool) → PassedBefore f s i passed → length s ≤ i → passed ≡ all f s
+  unfolding all
+  before-all i passed p h = sym (and-true passed) ∙ sym (ap (λ (l : List ℕ). passed && all f l) (drop-of-length-le s h)) ∙ p .rest

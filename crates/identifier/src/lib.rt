@@ -2,6 +2,7 @@
 // calls are those of `parting` and `joining`.
 ghost use mathlib.Core.Path.{_≡_};
 ghost use Rattle.format.specs.Numbers.{numberOf};
+ghost use Rattle.identifier.specs.Parts.{dotless};
 ghost use Rattle.identifier.specs.SetDigits.{width};
 ghost use Rattle.identifier.specs.Calls.{partedGiven};
 
@@ -40,4 +41,17 @@ pub fn width(total: u8) -> usize
         return 2;
     }
     3
+}
+
+// Is there no dot? The loop goes on past one: so the compiler looks at many bytes at once.
+pub fn is_dotless(s: &[u8]) -> bool
+    ensures { λ r. ⌜ r ≡ dotless (now (s .entry)) ⌝ }
+{
+    let mut none = true;
+    let mut i: usize = 0;
+    while i < s.len() {
+        none = none & (s[i] != b'.');
+        i += 1;
+    }
+    none
 }

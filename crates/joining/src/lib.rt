@@ -22,7 +22,7 @@ fn elements_stage(item: &[u8], isil: &[u8], set: &[u8]) -> Stage
     if !elements::formed(1, item) {
         return Stage::Refused(9);
     }
-    if fields::up_to(item, b'.').len() < item.len() {
+    if !identifier::is_dotless(item) {
         return Stage::Refused(9);
     }
     if 0 < isil.len() {

@@ -4,6 +4,7 @@ mod set;
 
 use format::Stage;
 use identifier::PartedAnswer;
+use places::CutAnswer;
 use set::SetAnswer;
 ghost use mathlib.Core.Path.{_≡_};
 ghost use mathlib.Core.Bool.{_&&_, _||_, not};
@@ -39,18 +40,17 @@ pub fn take_apart(
 ) -> PartedAnswer
     ensures { λ r. ⌜ FillsThree (parting leads (now (text .entry)) (three (now (item .entry)) (now (isil .entry)) (now (set .entry)))) r (three (now (item .exit)) (now (isil .exit)) (now (set .exit))) ⌝ }
 {
-    let counted = places::count_stage(text, leads);
-    let Stage::Passed = counted else {
-        return PartedAnswer::Refused(format::stage_number(counted));
+    let found = places::cut(text, leads);
+    let CutAnswer::Found(cut) = found else {
+        return PartedAnswer::Refused(places::cut_number(found));
     };
-    let owner = places::isil_part(text, leads);
-    let rest = places::behind_isil(text, leads);
-    let name = fields::up_to(rest, b'.');
+    let owner = places::isil_before(text, cut.item);
+    let name = &text[cut.item..cut.end];
     let named = names_stage(leads, owner, name);
     let Stage::Passed = named else {
         return PartedAnswer::Refused(format::stage_number(named));
     };
-    let said = set::set_behind(rest, name.len());
+    let said = set::set_behind(text, cut.end);
     let SetAnswer::Said { total, ordinal } = said else {
         return PartedAnswer::Refused(set::set_number(said));
     };

@@ -1,59 +1,110 @@
 // Where the parts of an identifier stand.
-use format::Stage;
 ghost use mathlib.Core.Path.{_≡_};
-ghost use Rattle.format.specs.Answers.{need};
-ghost use Rattle.format.specs.Numbers.{stageGiven};
-ghost use Rattle.identifier.specs.Parts.{parts};
-ghost use Rattle.identifier.specs.Elements.{rightCount};
-ghost use Rattle.parting.specs.Places.{isilIn, restIn};
-ghost use lib.ListN.{length};
+ghost use Prim.Native.Nat.{_+_, _-_, _≤_};
+ghost use lib.ListN.{length, take, drop};
+ghost use Rattle.format.specs.Bytes.{upTo};
+ghost use Rattle.format.specs.Numbers.{numberOf};
+ghost use Rattle.identifier.specs.Parts.{dot};
+ghost use Rattle.parting.specs.Places.{sixteen, Skips, cutGiven, cutAt, cutIn};
 
-// How many parts a text has: one more than there are dots.
-fn count_parts(text: &[u8]) -> usize
-    ensures { λ r. ⌜ r ≡ length (parts (now (text .entry))) ⌝ }
+// The identifier stands from `item` to `end`. Before it stand an ISIL and a dot, or nothing; behind it a dot and a part, or nothing.
+pub struct Cut {
+    pub item: usize,
+    pub end: usize,
+}
+
+// Where the identifier stands; or refusal 22, the number of parts is not right.
+pub enum CutAnswer {
+    Found(Cut),
+    Refused(u32),
+}
+
+// The number of its refusal, 0 for none.
+pub fn cut_number(answer: CutAnswer) -> u32
+    ensures { λ r. ⌜ r ≡ numberOf (cutGiven answer) ⌝ }
 {
-    let mut n: usize = 1;
-    let mut i: usize = 0;
+    match answer {
+        CutAnswer::Found(_) => 0,
+        CutAnswer::Refused(k) => k,
+    }
+}
+
+// The place of the first dot from `at` on: the text's end, where there is none.
+fn dot_from(text: &[u8], at: usize) -> usize
+    requires { ⌜ at ≤ length (now text) ⌝ }
+    ensures { λ r. ⌜ r ≡ at + length (upTo dot (drop at (now (text .entry)))) ⌝ }
+{
+    let mut i = at;
     while i < text.len() {
         if text[i] == b'.' {
-            n += 1;
+            return i;
         }
         i += 1;
     }
-    n
+    i
 }
 
-// 22 where the number of parts is not right.
-pub fn count_stage(text: &[u8], leads: bool) -> Stage
-    ensures { λ r. ⌜ stageGiven r ≡ need 22 (rightCount leads (parts (now (text .entry)))) ⌝ }
+// Are there 16 bytes from `at` on, and no dot among them?
+fn sixteen_dotless(text: &[u8], at: usize) -> bool
+    requires { ⌜ at ≤ length (now text) ⌝ }
+    ensures { λ r. ⌜ r ≡ sixteen (drop at (now (text .entry))) ⌝ }
 {
-    let n = count_parts(text);
-    let least: usize = if leads { 2 } else { 1 };
-    if n < least {
-        return Stage::Refused(22);
+    if text.len() - at < 16 {
+        return false;
     }
-    if least + 1 < n {
-        return Stage::Refused(22);
-    }
-    Stage::Passed
+    identifier::is_dotless(&text[at..at + 16])
 }
 
-// The first part, where an ISIL leads; else no bytes.
-pub fn isil_part(text: &[u8], leads: bool) -> &[u8]
-    ensures { λ r. ⌜ now r ≡ isilIn leads (now (text .entry)) ⌝ }
+// A place from `at` on, up to which there is no dot: 16 bytes a turn.
+fn skip_dotless(text: &[u8], at: usize) -> usize
+    requires { ⌜ at ≤ length (now text) ⌝ }
+    ensures { λ r. ⌜ Skips (now (text .entry)) at r ⌝ }
 {
-    if leads {
-        return fields::up_to(text, b'.');
+    let mut i = at;
+    while i < text.len() {
+        if !sixteen_dotless(text, i) {
+            return i;
+        }
+        i += 16;
     }
-    &text[0..0]
+    i
 }
 
-// What stands behind the ISIL, where one leads; else the whole text.
-pub fn behind_isil(text: &[u8], leads: bool) -> &[u8]
-    ensures { λ r. ⌜ now r ≡ restIn leads (now (text .entry)) ⌝ }
+// Where an identifier stands that begins at `item`.
+fn cut_at(text: &[u8], item: usize) -> CutAnswer
+    requires { ⌜ item ≤ length (now text) ⌝ }
+    ensures { λ r. ⌜ cutGiven r ≡ cutAt (now (text .entry)) item ⌝ }
 {
-    if leads {
-        return fields::past(text, b'.');
+    let end = dot_from(text, skip_dotless(text, item));
+    if end < text.len() {
+        if dot_from(text, end + 1) < text.len() {
+            return CutAnswer::Refused(22);
+        }
     }
-    text
+    CutAnswer::Found(Cut { item, end })
+}
+
+// Where the identifier stands: it begins the text or, if an ISIL leads, behind the first dot.
+pub fn cut(text: &[u8], leads: bool) -> CutAnswer
+    ensures { λ r. ⌜ cutGiven r ≡ cutIn leads (now (text .entry)) ⌝ }
+{
+    if !leads {
+        return cut_at(text, 0);
+    }
+    let first = dot_from(text, 0);
+    if first == text.len() {
+        return CutAnswer::Refused(22);
+    }
+    cut_at(text, first + 1)
+}
+
+// The ISIL before the identifier, without its dot; no bytes, where the identifier begins the text.
+pub fn isil_before(text: &[u8], item: usize) -> &[u8]
+    requires { ⌜ item ≤ length (now text) ⌝ }
+    ensures { λ r. ⌜ now r ≡ take (item - 1) (now (text .entry)) ⌝ }
+{
+    if item == 0 {
+        return &text[0..0];
+    }
+    &text[0..item - 1]
 }
