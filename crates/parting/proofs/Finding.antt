@@ -1,12 +1,13 @@
 -- Where code finds the parts of an identifier, there they are.
 use mathlib.Core.Path.{_≡_, refl, sym, ap, _∙_}
-use Prim.Native.Nat.{ℕ, _+_, _≤_}
+use Prim.Native.Nat.{ℕ, _+_, _≤_, _<_}
 use native.Mathlib.Omega.{arith}
 use mathlib.Core.Bool.{Bool, true, false}
 use mathlib.Core.List.{List, [], _∷_}
-use lib.ListN.{length, drop, getD}
+use lib.ListN.{length, drop, getD, drop-of-length-le}
 use lib.Dec.{eqb}
 use Rattle.format.specs.Bytes.{if_then_else_, upTo, past}
+use Rattle.format.proofs.Strings.{rest-opened}
 use Rattle.format.proofs.Text.{between-facts}
 use Rattle.fields.proofs.Places.{past-drop}
 use Rattle.identifier.specs.Parts.{dot, onFirst, parts}
@@ -114,3 +115,13 @@ set-found true s e =
     let p = parts-past s k in
     ap (drop 2) (first-part s) ∙ ap (drop 1) p ∙ placed (past dot s) (omega (arith, right true s e, ap length p, ap length (first-part s)))
 set-found false s e = placed s (right false s e .1)
+
+-- ---- how many parts there are, by the first dot
+
+pub count-last : (s : List ℕ) → length s ≤ length (upTo dot s) → length (parts s) ≡ 1
+unfolding partsBehind
+count-last s h = omega (arith, ap length (first-part s), ap length (parts-behind s ∙ ap partsBehind (drop-of-length-le s h)))
+
+pub count-more : (s : List ℕ) → length (upTo dot s) < length s → length (parts s) ≡ 1 + length (parts (drop (length (upTo dot s) + 1) s))
+unfolding partsBehind
+count-more s h = omega (arith, ap length (first-part s), ap length (parts-behind s ∙ ap partsBehind (rest-opened s (length (upTo dot s)) h)))

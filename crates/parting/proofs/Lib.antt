@@ -1,5 +1,6 @@
+pub mod Seeking
 pub mod Finding
-pub mod Counting
+pub mod Cutting
 pub mod Numbers
 pub mod Saying
 pub mod Taking

@@ -42,8 +42,8 @@ cutGiven (cut.Found c) = got c
 cutGiven (cut.Refused k) = refused (plain k)
 
 -- an identifier that begins at a place, where no more than one part follows
-unfoldable pub cutAt : List ℕ → ℕ → Answer Cut
-cutAt s at = inOrder (need 22 (leb (length (parts (drop at s))) 2) ∷ []) (record { item = at; end = at + length (upTo dot (drop at s)) })
+unfoldable pub cutFrom : List ℕ → ℕ → Answer Cut
+cutFrom s at = inOrder (need 22 (leb (length (parts (drop at s))) 2) ∷ []) (record { item = at; end = at + length (upTo dot (drop at s)) })
 
 -- where the identifier begins
 abbrev pub itemAt : Bool → List ℕ → ℕ

@@ -40,17 +40,19 @@ pub fn take_apart(
 ) -> PartedAnswer
     ensures { λ r. ⌜ FillsThree (parting leads (now (text .entry)) (three (now (item .entry)) (now (isil .entry)) (now (set .entry)))) r (three (now (item .exit)) (now (isil .exit)) (now (set .exit))) ⌝ }
 {
-    let found = places::cut(text, leads);
+    let found = places::cut_text(text, leads);
     let CutAnswer::Found(cut) = found else {
         return PartedAnswer::Refused(places::cut_number(found));
     };
-    let owner = places::isil_before(text, cut.item);
-    let name = &text[cut.item..cut.end];
+    let begin = cut.item;
+    let end = cut.end;
+    let owner = places::isil_before(text, begin);
+    let name = &text[begin..end];
     let named = names_stage(leads, owner, name);
     let Stage::Passed = named else {
         return PartedAnswer::Refused(format::stage_number(named));
     };
-    let said = set::set_behind(text, cut.end);
+    let said = set::set_behind(text, end);
     let SetAnswer::Said { total, ordinal } = said else {
         return PartedAnswer::Refused(set::set_number(said));
     };

@@ -5,7 +5,7 @@ ghost use lib.ListN.{length, take, drop};
 ghost use Rattle.format.specs.Bytes.{upTo};
 ghost use Rattle.format.specs.Numbers.{numberOf};
 ghost use Rattle.identifier.specs.Parts.{dot};
-ghost use Rattle.parting.specs.Places.{sixteen, Skips, cutGiven, cutAt, cutIn};
+ghost use Rattle.parting.specs.Places.{sixteen, Skips, cutGiven, cutFrom, cutIn};
 
 // The identifier stands from `item` to `end`. Before it stand an ISIL and a dot, or nothing; behind it a dot and a part, or nothing.
 pub struct Cut {
@@ -71,9 +71,9 @@ fn skip_dotless(text: &[u8], at: usize) -> usize
 }
 
 // Where an identifier stands that begins at `item`.
-fn cut_at(text: &[u8], item: usize) -> CutAnswer
+fn cut_from(text: &[u8], item: usize) -> CutAnswer
     requires { ⌜ item ≤ length (now text) ⌝ }
-    ensures { λ r. ⌜ cutGiven r ≡ cutAt (now (text .entry)) item ⌝ }
+    ensures { λ r. ⌜ cutGiven r ≡ cutFrom (now (text .entry)) item ⌝ }
 {
     let end = dot_from(text, skip_dotless(text, item));
     if end < text.len() {
@@ -85,17 +85,17 @@ fn cut_at(text: &[u8], item: usize) -> CutAnswer
 }
 
 // Where the identifier stands: it begins the text or, if an ISIL leads, behind the first dot.
-pub fn cut(text: &[u8], leads: bool) -> CutAnswer
+pub fn cut_text(text: &[u8], leads: bool) -> CutAnswer
     ensures { λ r. ⌜ cutGiven r ≡ cutIn leads (now (text .entry)) ⌝ }
 {
     if !leads {
-        return cut_at(text, 0);
+        return cut_from(text, 0);
     }
     let first = dot_from(text, 0);
     if first == text.len() {
         return CutAnswer::Refused(22);
     }
-    cut_at(text, first + 1)
+    cut_from(text, first + 1)
 }
 
 // The ISIL before the identifier, without its dot; no bytes, where the identifier begins the text.
