@@ -3,20 +3,12 @@ use mathlib.Core.Path.{_≡_, sym, _∙_}
 use mathlib.Core.Bool.{Bool}
 use Prim.Native.Nat.{ℕ}
 use mathlib.Core.List.{List}
-use denote.Ref.{RefT, now}
-use Rattle.format.specs.Bytes.{upTo, past}
 use Rattle.format.specs.Fields.{isil, alternative}
 use Rattle.format.specs.Numbers.{numberOf}
 use Rattle.fields.specs.Forms.{itemForm, ownerForm, libraryForm, itemGiven, ownerGiven, libraryGiven}
 use Rattle.fields.specs.declared.ItemField.{ItemField}
 use Rattle.fields.specs.declared.OwnerField.{OwnerField}
 use Rattle.fields.specs.declared.LibraryField.{LibraryField}
-
-pub up-to-one : (s : List ℕ) (b : ℕ) (r r₂ : RefT (List ℕ)) → now r ≡ upTo b s → now r₂ ≡ upTo b s → now r ≡ now r₂
-up-to-one s b r r₂ x y = x ∙ sym y
-
-pub past-one : (s : List ℕ) (b : ℕ) (r r₂ : RefT (List ℕ)) → now r ≡ past b s → now r₂ ≡ past b s → now r ≡ now r₂
-past-one s b r r₂ x y = x ∙ sym y
 
 pub isil-one : (s : List ℕ) (r r₂ : Bool) → r ≡ isil s → r₂ ≡ isil s → r ≡ r₂
 isil-one s r r₂ a b = a ∙ sym b

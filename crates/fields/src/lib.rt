@@ -151,7 +151,7 @@ fn held(s: &[u8]) -> &[u8]
 }
 
 // The bytes before the first b: all, where there is none.
-pub fn up_to(s: &[u8], b: u8) -> &[u8]
+fn up_to(s: &[u8], b: u8) -> &[u8]
     ensures { λ r. ⌜ now r ≡ upTo b (now (s .entry)) ⌝ }
 {
     front(s, find(s, b))
@@ -165,7 +165,7 @@ fn behind(s: &[u8], at: usize) -> &[u8]
 }
 
 // The bytes behind the first b.
-pub fn past(s: &[u8], b: u8) -> &[u8]
+fn past(s: &[u8], b: u8) -> &[u8]
     ensures { λ r. ⌜ now r ≡ past b (now (s .entry)) ⌝ }
 {
     behind(s, find(s, b))
