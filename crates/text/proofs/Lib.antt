@@ -1,2 +1,3 @@
 pub mod Letters
+pub mod Plain
 pub mod One

@@ -4,7 +4,7 @@ ghost use mathlib.Core.Path.{_≡_};
 ghost use mathlib.Core.Bool.{true, false};
 ghost use mathlib.Core.List.{[], _∷_};
 ghost use lib.ListN.{length, getD};
-ghost use Rattle.format.specs.Bytes.{between};
+ghost use Rattle.format.specs.Bytes.{all, between};
 ghost use Rattle.format.specs.Text.{inside, tail, text};
 ghost use Rattle.text.specs.Letters.{Letter, Second};
 
@@ -80,10 +80,26 @@ fn letter(s: &[u8], i: usize) -> usize
     0
 }
 
-// Is s text, well-formed UTF-8 without 00 to 1F and 7F? One letter a turn.
+// Are all bytes 20 to 7E? The loop goes on past another: so the compiler looks at many bytes at once.
+fn is_plain(s: &[u8]) -> bool
+    ensures { λ r. ⌜ r ≡ all (between 0x20 0x7E) (now (s .entry)) ⌝ }
+{
+    let mut plain = true;
+    let mut i: usize = 0;
+    while i < s.len() {
+        plain = plain & strings::within(0x20, 0x7E, s[i]);
+        i += 1;
+    }
+    plain
+}
+
+// Is s text, well-formed UTF-8 without 00 to 1F and 7F? Where not all bytes are letters by themselves, one letter a turn.
 pub fn is_text(s: &[u8]) -> bool
     ensures { λ r. ⌜ r ≡ text (now (s .entry)) ⌝ }
 {
+    if is_plain(s) {
+        return true;
+    }
     let mut i: usize = 0;
     while i < s.len() {
         if strings::within(0x20, 0x7E, s[i]) {
