@@ -47,11 +47,11 @@ module _ (f : ℕ → Bool) (s : List ℕ) where
   pub before-start : PassedBefore f s 0 true
   before-start = record { inside = omega arith; rest = refl }
 
-  pub before-on : (i : ℕ) (passed : Bool) → PassedBefore f s i passed → i < length s → PassedBefore f s (i + 1) (passed && f (getD s i 0))
-  before-on i passed p h =
+  pub before-on : (i : ℕ) (passed t : Bool) → PassedBefore f s i passed → i < length s → t ≡ f (getD s i 0) → PassedBefore f s (i + 1) (passed && t)
+  before-on i passed t p h e =
       record {
         inside = omega arith;
-        rest = rw add-one (and-assoc passed (f (getD s i 0)) (all f (drop (suc i) s)) ∙ sym (ap (λ (t : Bool). passed && t) (all-cons f s i (f (getD s i 0)) h refl)) ∙ p .rest);
+        rest = rw add-one (and-assoc passed t (all f (drop (suc i) s)) ∙ sym (ap (λ (r : Bool). passed && r) (all-cons f s i t h (sym e))) ∙ p .rest);
       }
 
   pub before-all : (i : ℕ) (passed : Bool) → PassedBefore f s i passed → length s ≤ i → passed ≡ all f s

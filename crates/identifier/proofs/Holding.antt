@@ -1,26 +1,25 @@
 -- An identifier that holds elements is one that is taken apart into them, and one that is put together of them.
 use mathlib.Core.Path.{_≡_, refl, sym, ap, subst, _∙_}
 use mathlib.Core.Logic.{inl, inr}
-use Prim.Native.Nat.{ℕ, zero, suc, _+_, _≤_, _<_}
+use Prim.Native.Nat.{ℕ, _+_, _<_}
 use native.Mathlib.Omega.{arith}
 use mathlib.Core.Bool.{Bool, true, false, not, _&&_, _||_}
 use mathlib.Core.List.{List, [], _∷_, _++_, append-assoc, append-nil}
 use lib.ListN.{length}
 use lib.Dec.{eqb, leb}
-use borrow.Author.Tests.{leb-true, ne-eqb, eqb-true, eqb-false}
+use borrow.Author.Tests.{leb-true, eqb-true}
 use Rattle.format.specs.Bytes.{isEmpty, all, same, between, upTo, past, le16}
 use Rattle.format.specs.Fields.{capital, unitByte, hyphen, isil}
-use Rattle.format.specs.Elements.{partsOf, ordinalOf, shape, form, value}
-use Rattle.format.proofs.Tests.{never, and-l, and-r, and-i, not-t, not-f, or-inv, or-l, or-r, all-append, all-mono, same-eq}
+use Rattle.format.specs.Elements.{shape, form}
+use Rattle.format.proofs.Tests.{never, and-l, and-r, and-i, or-inv, or-r, all-append, all-mono, same-eq}
 use Rattle.format.proofs.Fields.{isil-facts, isil-whole, isil-first}
 use Rattle.words.proofs.Cases.{decide}
 use Rattle.identifier.specs.Parts.{dot, dotless, parts, dotted}
 use Rattle.identifier.specs.SetDigits.{saysSet}
-use Rattle.identifier.specs.Elements.{three, Elements, before, rightCount, isilPart, itemPart, setPlace, pointing, goodSet, goodParts, setOf, elementsOf, goodElements, partsFor, identifierOf}
-use Rattle.identifier.specs.Meaning.{Begins, item, isil as led, Item, Ends, none, set, Holds, holds, Points, points, SetPart}
-use Rattle.identifier.specs.Demands.{Sound, Made}
+use Rattle.identifier.specs.Elements.{three, Elements, rightCount, isilPart, itemPart, setPlace, pointing, goodSet, goodParts, setOf, elementsOf}
+use Rattle.identifier.specs.Meaning.{item, isil as led, Item, none, set, Holds, holds, Points, points, SetPart}
 use Rattle.identifier.proofs.Splitting.{parts-last, parts-more, dotted-parts, parts-whole}
-use Rattle.identifier.proofs.Sets.{set-bytes, set-of, set-total, set-numbers, set-said, said-set, set-form, set-written, written-set, set-whole, set-not-s, form-four}
+use Rattle.identifier.proofs.Sets.{set-of, set-said, said-set, set-whole, set-not-s}
 
 -- ---- an ISIL holds no dot
 

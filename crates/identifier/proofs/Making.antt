@@ -13,7 +13,7 @@ use Rattle.words.proofs.Cases.{decide}
 use Rattle.identifier.specs.Parts.{dot, dotless, dotted}
 use Rattle.identifier.specs.SetDigits.{setPart}
 use Rattle.identifier.specs.Elements.{three, Elements, goodElements, partsFor, identifierOf}
-use Rattle.identifier.specs.Meaning.{item, isil as led, Item, none, set, SetPart, Holds, holds}
+use Rattle.identifier.specs.Meaning.{item, isil as led, none, set, SetPart, Holds, holds}
 use Rattle.identifier.specs.Demands.{Sound, Made}
 use Rattle.identifier.proofs.Sets.{set-total, set-form, set-written, written-set, form-four, four-form}
 use Rattle.identifier.proofs.Holding.{isil-some, behind-isil, holds-alone, holds-set, holds-isil, holds-both}

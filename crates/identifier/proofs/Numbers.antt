@@ -1,21 +1,19 @@
 -- A number of the set information stays what it is, or is refused.
-use mathlib.Core.Path.{_≡_, refl, sym, ap, ap₂, subst, _∙_}
-use Prim.Native.Nat.{ℕ, _+_, _≤_, _<_}
+use mathlib.Core.Path.{_≡_, refl, sym, ap, subst, _∙_}
+use Prim.Native.Nat.{ℕ, _+_, _<_}
 use native.Mathlib.Omega.{arith}
 use mathlib.Core.Bool.{Bool, true, false, not}
 use mathlib.Core.List.{List, [], _∷_, _++_}
-use lib.ListN.{length}
-use Rattle.format.specs.Answers.{got, refused, plain}
-use Rattle.format.specs.Bytes.{all, isEmpty, same, word}
-use Rattle.format.specs.Elements.{partsOf, ordinalOf, form}
-use Rattle.format.proofs.Tests.{never, all-append}
+use Rattle.format.specs.Bytes.{all, isEmpty, word}
+use Rattle.format.specs.Elements.{partsOf, ordinalOf}
+use Rattle.format.proofs.Tests.{all-append}
 use Rattle.words.proofs.Cases.{decide}
 use Rattle.identifier.specs.Parts.{dot, parts}
-use Rattle.identifier.specs.SetDigits.{digit, totalIn, ordinalIn, saysSet}
-use Rattle.identifier.specs.Elements.{Elements, rightCount, goodParts, goodSet, pointing, setPlace, setOf, elementsOf}
-use Rattle.identifier.specs.Calls.{Lengths, parting, joining}
+use Rattle.identifier.specs.SetDigits.{digit, totalIn, ordinalIn}
+use Rattle.identifier.specs.Elements.{Elements, rightCount, goodParts, goodSet, setPlace, setOf, elementsOf}
+use Rattle.identifier.specs.Calls.{parting, joining}
 use Rattle.identifier.specs.Meaning.{item, isil as led, none, set, same-numbers, SetPart, Holds, holds, Tells, tells}
-use Rattle.identifier.specs.Demands.{Sound, Made, KeepsNumbers}
+use Rattle.identifier.specs.Demands.{KeepsNumbers}
 use Rattle.identifier.proofs.Digits.{digits-all}
 use Rattle.identifier.proofs.Sets.{bytes-numbers, halves-read, form-four, set-total, set-numbers, digits-whole, digits-not-s}
 use Rattle.identifier.proofs.Holding.{parts-x-p, parts-i, good-parts, set-in, holds-found}

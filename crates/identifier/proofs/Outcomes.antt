@@ -1,10 +1,8 @@
 -- Taking apart: which of its answers is given, and what the outcome is then.
-use mathlib.Core.Path.{_≡_, refl, sym, ap, _∙_}
-use mathlib.Core.Logic.{_⊎_, inl, inr}
-use Prim.Native.Nat.{ℕ, _≤_, _<_}
-use native.Mathlib.Omega.{arith}
+use mathlib.Core.Path.{_≡_, sym, ap, _∙_}
+use Prim.Native.Nat.{ℕ}
 use mathlib.Core.Bool.{Bool, true, false, not, _&&_}
-use mathlib.Core.List.{List, [], _∷_}
+use mathlib.Core.List.{List}
 use lib.ListN.{length}
 use lib.Dec.{leb}
 use borrow.Author.Tests.{le-leb, lt-leb, leb-true, leb-false}
@@ -13,11 +11,10 @@ use Rattle.format.specs.declared.NumberAnswer as number
 use Rattle.format.proofs.Answers.{next-ok, next-no, none-ok, afterwards-got, afterwards-refused}
 use Rattle.format.proofs.Tests.{never, and-l, and-r, and-i, and-left, and-no}
 use Rattle.words.proofs.Cases.{decide}
-use Rattle.identifier.specs.declared.PartedAnswer.{PartedAnswer}
 use Rattle.identifier.specs.declared.PartedAnswer.the-variants.{Done, Refused}
 use Rattle.identifier.specs.Parts.{parts}
-use Rattle.identifier.specs.Elements.{Three, three, Elements, rightCount, goodParts, pointing, setPlace, elementsOf}
-use Rattle.identifier.specs.Calls.{Lengths, lengths, roomFor, partSteps, Parted, filledAll, parting, partedGiven, FillsThree}
+use Rattle.identifier.specs.Elements.{three, Elements, rightCount, goodParts, pointing, setPlace, elementsOf}
+use Rattle.identifier.specs.Calls.{Lengths, lengths, roomFor, partSteps, filledAll, parting, FillsThree}
 use Rattle.identifier.specs.Demands.{Room, Short, item, isil, set}
 
 -- ---- room

@@ -1,20 +1,20 @@
 -- Identifiers and elements at the edges of the rules, computed: one table under a single statement. The first is document 02's example of E2.
 use mathlib.Core.Path.{_≡_, refl}
 use Prim.Native.Nat.{ℕ}
-use mathlib.Core.Bool.{Bool, true, false, not, _&&_, _||_}
+use mathlib.Core.Bool.{Bool, true, false}
 use mathlib.Core.List.{List, [], _∷_, _++_}
 use lib.ListN.{length}
-use Rattle.format.specs.Answers.{Answer, plain, got, refused, need, inOrder, afterwards}
+use Rattle.format.specs.Answers.{plain, got, refused, need, inOrder, afterwards}
 use Rattle.format.specs.Bytes.{all, same, upTo, past, le16, word}
 use Rattle.format.specs.Text.{rows, after, rowsFrom, text}
 use Rattle.format.specs.Fields.{capital, unitByte, isilOf, isil}
 use Rattle.format.specs.Elements.{setInfo, shape, form, value}
-use Rattle.words.specs.Calls.{Outcome, filling}
+use Rattle.words.specs.Calls.{filling}
 use Rattle.words.proofs.Pairs.{swiss}
 use Rattle.identifier.specs.Parts.{onFirst, parts, dotted}
 use Rattle.identifier.specs.SetDigits.{numberFrom, digits, width, saysSet, setPart}
-use Rattle.identifier.specs.Elements.{three, Elements, rightCount, pointing, goodSet, goodParts, setOf, goodElements, partsFor, identifierOf}
-use Rattle.identifier.specs.Calls.{Lengths, lengths, roomFor, partSteps, Parted, parting, joinSteps, joining}
+use Rattle.identifier.specs.Elements.{three, Elements, rightCount, pointing, goodSet, goodParts, setOf, goodElements, partsFor}
+use Rattle.identifier.specs.Calls.{lengths, roomFor, partSteps, parting, joinSteps, joining}
 
 -- CH-000134-1, 12345678; DK-1; A, S
 swissIsil : List ℕ

@@ -10,14 +10,14 @@ use lib.ListN.{length, take, drop}
 use lib.Seq.{take-append-seam}
 use Rattle.format.specs.Answers.{Answer, Refusal, plain, got, refused, orElse}
 use Rattle.format.specs.Bytes.{all, isEmpty, filled}
-use Rattle.format.specs.Elements.{partsOf, ordinalOf, setBytes, form}
-use Rattle.format.specs.Numbers.{Gives, gives, oneGives, Each, none, resultOf}
+use Rattle.format.specs.Elements.{partsOf, ordinalOf, setBytes}
+use Rattle.format.specs.Numbers.{gives, oneGives, Each, none}
 use Rattle.format.specs.Demands.{Exact}
 use Rattle.format.proofs.Answers.{refused-inj, got-inj, worked, afterwards-got, afterwards-refused}
 use Rattle.format.proofs.Promises.{exactly}
 use Rattle.format.proofs.Refusals.{test, listed, zero-done}
 use Rattle.format.proofs.Tests.{never}
-use Rattle.words.specs.Calls.{Outcome, filling, FillsC}
+use Rattle.words.specs.Calls.{filling, FillsC}
 use Rattle.words.specs.Demands.{Done}
 use Rattle.words.proofs.Cases.{decide}
 use Rattle.words.proofs.Outcomes.{answer-bad, answer-short, answer-good, good-got, bad-refused, short-refused}
@@ -26,16 +26,16 @@ use Rattle.identifier.specs.declared.PartedAnswer.{PartedAnswer}
 use Rattle.identifier.specs.declared.PartedAnswer.the-variants as parted
 use Rattle.identifier.specs.Parts.{parts}
 use Rattle.identifier.specs.SetDigits.{digit, digits, totalIn, ordinalIn}
-use Rattle.identifier.specs.Elements.{Three, three, Elements, rightCount, goodParts, pointing, setPlace, goodElements, elementsOf, identifierOf}
+use Rattle.identifier.specs.Elements.{Elements, rightCount, goodParts, pointing, setPlace, goodElements, elementsOf, identifierOf}
 use Rattle.identifier.specs.Calls.{Lengths, lengths, roomFor, partSteps, partGives, Parted, filledAll, parting, joinSteps, joinGives, joining, partedGiven, FillsThree, FillsThreeC}
 use Rattle.identifier.specs.Meaning.{SameNumbers, Holds, Points}
-use Rattle.identifier.specs.Demands.{DoneThree, Room, Short, LeavesThree, Counted, PartsIdentifiers, Sound, Made, LeavesAlone, JoinsElements, fronts, TakesBack, PutsBack}
+use Rattle.identifier.specs.Demands.{DoneThree, Room, Short, LeavesThree, PartsIdentifiers, Made, LeavesAlone, JoinsElements, fronts, TakesBack, PutsBack}
 use Rattle.identifier.proofs.Splitting.{right-counted, counted-right}
 use Rattle.identifier.proofs.Digits.{tens}
-use Rattle.identifier.proofs.Sets.{set-bytes, bytes-numbers, same-length, same-digits, same-read, same-written, same-bytes, same-below, read-same, written-same}
-use Rattle.identifier.proofs.Holding.{Found, holds-found, found-holds, points-s, s-points}
+use Rattle.identifier.proofs.Sets.{set-bytes, same-length, same-digits, same-read, same-written, same-bytes, same-below, read-same, written-same}
+use Rattle.identifier.proofs.Holding.{holds-found, found-holds, points-s, s-points}
 use Rattle.identifier.proofs.Making.{good-sound, sound-good, holds-sound, holds-leads, holds-made, sound-made}
-use Rattle.identifier.proofs.Outcomes.{room-for, for-room, short-for, for-short, count-no, bad-no, pointing-no, short-no, all-ok, Verdict, count, bad, points, short, done, verdict}
+use Rattle.identifier.proofs.Outcomes.{room-for, for-room, short-for, for-short, count-no, bad-no, pointing-no, short-no, all-ok, count, bad, points, short, done, verdict}
 
 -- ==== Demand 1: one answer and one content of each buffer, on every input; a refusal changes nothing and gives only its number
 

@@ -1,6 +1,6 @@
 -- How much room is always enough: 255, 16 and 4 bytes for the elements, 279 for the identifier.
-use mathlib.Core.Path.{_≡_, refl, sym, ap, _∙_}
-use Prim.Native.Nat.{ℕ, _+_, _*_, _≤_}
+use mathlib.Core.Path.{_≡_, refl, ap}
+use Prim.Native.Nat.{ℕ, _+_, _≤_}
 use native.Mathlib.Omega.{arith}
 use mathlib.Core.Bool.{Bool, true}
 use mathlib.Core.List.{List, [], _∷_, _++_}
@@ -10,11 +10,11 @@ use borrow.Author.Tests.{leb-true}
 use Rattle.format.specs.Bytes.{upTo, past}
 use Rattle.format.specs.Fields.{hyphen, isilOf, isil}
 use Rattle.format.specs.Elements.{shape, form}
-use Rattle.format.proofs.Tests.{and-l, and-r, and-iff}
+use Rattle.format.proofs.Tests.{and-r, and-iff}
 use Rattle.format.proofs.Fields.{isil-whole}
 use Rattle.identifier.specs.Parts.{dot}
 use Rattle.identifier.specs.Elements.{Elements}
-use Rattle.identifier.specs.Meaning.{item, isil as led, Item, Ends, none, set, SetPart, Width, one-digit, two-digits, three-digits, Holds, holds}
+use Rattle.identifier.specs.Meaning.{item, isil as led, Item, Ends, none, set, Width, one-digit, two-digits, three-digits, Holds, holds}
 use Rattle.identifier.proofs.Sets.{same-length}
 use Rattle.identifier.proofs.Holding.{form-isil}
 

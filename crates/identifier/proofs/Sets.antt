@@ -1,21 +1,21 @@
 -- Set information in digits and in bytes: the same two numbers, over the count of digits; and a part of the identifier that holds them.
 use mathlib.Core.Path.{_≡_, refl, sym, ap, ap₂, subst, _∙_}
-use Prim.Native.Nat.{ℕ, suc, _+_, _*_, _/_, _%_, _≤_, _<_}
+use Prim.Native.Nat.{ℕ, _+_, _*_, _/_, _%_, _≤_, _<_}
 use native.Mathlib.Omega.{arith}
-use mathlib.Core.Bool.{Bool, true, false, not, _&&_}
+use mathlib.Core.Bool.{true, false, not}
 use mathlib.Core.List.{List, [], _∷_, _++_}
 use lib.ListN.{length, take, drop, getD, length-append, length-drop, take-append-drop}
 use lib.Seq.{take-append-seam, drop-append-seam, length-take-le}
 use lib.Dec.{leb, eqb}
 use borrow.Author.Tests.{le-leb, lt-leb, leb-true, leb-false, eqb-true, eq-eqb, ne-eqb}
-use Rattle.format.specs.Bytes.{all, between, same, le16, word}
+use Rattle.format.specs.Bytes.{all, same, le16, word}
 use Rattle.format.specs.Elements.{partsOf, ordinalOf, setBytes, setInfo, shape, form, value}
-use Rattle.format.proofs.Tests.{never, and-l, and-r, and-i, and-iff, all-append, all-take, all-drop, all-mono, same-eq}
-use Rattle.format.proofs.Values.{SetInfo, value-set, set-value}
+use Rattle.format.proofs.Tests.{never, and-l, and-i, and-iff, all-append, all-take, all-drop, all-mono, same-eq}
+use Rattle.format.proofs.Values.{value-set}
 use Rattle.words.proofs.Cases.{decide, within}
 use Rattle.identifier.specs.Parts.{dot, dotless}
-use Rattle.identifier.specs.SetDigits.{digit, numberFrom, numberIn, digits, width, totalIn, ordinalIn, saysSet, setPart}
-use Rattle.identifier.specs.Meaning.{Digits, none, more, Width, one-digit, two-digits, three-digits, SameNumbers, same-numbers, SetPart, set}
+use Rattle.identifier.specs.SetDigits.{digit, digits, width, totalIn, ordinalIn, saysSet, setPart}
+use Rattle.identifier.specs.Meaning.{Digits, Width, one-digit, two-digits, three-digits, SameNumbers, same-numbers, SetPart, set}
 use Rattle.identifier.proofs.Digits.{tens, digits-number, digits-count, digits-all, digits-below, digits-are, are-digits, read-digits}
 
 -- ---- how many digits

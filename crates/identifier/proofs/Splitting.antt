@@ -1,15 +1,15 @@
 -- Splitting at dots: dots between the parts give the text back, no part holds a dot, and a text has as many parts as it is split into.
-use mathlib.Core.Path.{_≡_, refl, sym, ap, _∙_}
+use mathlib.Core.Path.{_≡_, refl, ap, _∙_}
 use Prim.Native.Nat.{ℕ, zero, suc, _+_, _≤_, _<_}
 use native.Mathlib.Omega.{arith}
-use mathlib.Core.Bool.{Bool, true, false, not, _&&_}
+use mathlib.Core.Bool.{Bool, true, false, not}
 use mathlib.Core.List.{List, [], _∷_, _++_}
 use lib.ListN.{length}
 use lib.Dec.{eqb, leb}
 use borrow.Author.Tests.{leb-true, eqb-true}
 use Rattle.format.specs.Bytes.{all, between}
-use Rattle.format.proofs.Tests.{and-l, and-r, and-i, not-t, never}
-use Rattle.words.proofs.Cases.{decide, within}
+use Rattle.format.proofs.Tests.{and-l, and-r, not-t}
+use Rattle.words.proofs.Cases.{decide}
 use Rattle.identifier.specs.Parts.{dot, dotless, onFirst, parts, dotted}
 use Rattle.identifier.specs.Elements.{before, rightCount}
 use Rattle.identifier.specs.Meaning.{Parts, last, more, Permitted, item, item-set, isil-item, isil-item-set}

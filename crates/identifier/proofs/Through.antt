@@ -1,8 +1,8 @@
 -- Words, text and elements: what the four calls on them give one another.
 use mathlib.Core.Path.{_≡_, sym, ap, ap₂, subst, _∙_}
-use Prim.Native.Nat.{ℕ, _≤_}
+use Prim.Native.Nat.{ℕ}
 use native.Mathlib.Omega.{arith}
-use mathlib.Core.Bool.{Bool, true, not}
+use mathlib.Core.Bool.{true, not}
 use mathlib.Core.List.{List}
 use lib.ListN.{length, take, drop}
 use lib.Seq.{take-append-seam}
@@ -11,15 +11,14 @@ use Rattle.format.specs.Bytes.{all, isEmpty, filled}
 use Rattle.format.proofs.Answers.{worked, afterwards-got}
 use Rattle.words.specs.Code40.{is646, meaningful, textOf, wordsOf}
 use Rattle.words.specs.Calls.{filling, decodeSteps, decoding, encoding}
-use Rattle.words.specs.Demands.{Done}
 use Rattle.words.proofs.Meanings.{text-says}
 use Rattle.words.proofs.Runs.{words-laid}
 use Rattle.words.proofs.RoundTrip.{says-low, laid-few}
 use Rattle.words.proofs.Outcomes.{good-got}
 use Rattle.words.proofs.Promises.{encodes, not-high, written-reads-back}
-use Rattle.identifier.specs.Elements.{Elements, identifierOf}
-use Rattle.identifier.specs.Calls.{Lengths, joinSteps, parting, joining}
-use Rattle.identifier.specs.Demands.{DoneThree, Room, ElementsThroughWords, WordsThroughElements}
+use Rattle.identifier.specs.Elements.{identifierOf}
+use Rattle.identifier.specs.Calls.{joinSteps, parting, joining}
+use Rattle.identifier.specs.Demands.{DoneThree, ElementsThroughWords, WordsThroughElements}
 use Rattle.identifier.proofs.Promises.{taken-back, put-back}
 
 -- where a buffer was filled, its front is the output

@@ -1,13 +1,13 @@
 -- Wrong programs, and the demand that each breaks. Nothing is said here of `parting` or `joining`: whatever program is of one of these kinds does
 -- not keep the demand (specs/Demands.antt), however its proof were made.
 use mathlib.Core.Path.{_≡_, refl, sym, ap, _∙_}
-use Prim.Native.Nat.{ℕ, _≤_, _<_}
+use Prim.Native.Nat.{ℕ, _≤_}
 use native.Mathlib.Omega.{arith}
-use mathlib.Core.Bool.{Bool, true, false, not}
+use mathlib.Core.Bool.{Bool, true, false}
 use mathlib.Core.List.{List, [], _∷_, _++_}
-use lib.ListN.{length, take, drop, getD}
+use lib.ListN.{length, getD}
 use Rattle.format.specs.Answers.{Refusal, plain, got, refused}
-use Rattle.format.specs.Bytes.{all, isEmpty, filled, same, upTo, past, le16, word}
+use Rattle.format.specs.Bytes.{all, filled, same, upTo, past, le16, word}
 use Rattle.format.specs.Text.{rows, after, rowsFrom, text}
 use Rattle.format.specs.Fields.{capital, unitByte, isilOf, isil}
 use Rattle.format.specs.Elements.{setInfo, shape, form, value}
@@ -17,12 +17,12 @@ use Rattle.format.proofs.Wrong.{no-refusal}
 use Rattle.words.specs.Demands.{Done}
 use Rattle.identifier.specs.Parts.{onFirst, parts, dotted}
 use Rattle.identifier.specs.SetDigits.{numberFrom, digits, width, saysSet, setPart}
-use Rattle.identifier.specs.Elements.{three, Elements, rightCount, pointing, goodSet, goodParts, setPlace, setOf, goodElements, partsFor, identifierOf}
-use Rattle.identifier.specs.Calls.{Lengths, lengths}
+use Rattle.identifier.specs.Elements.{three, Elements, rightCount, pointing, goodSet, goodParts, setOf, goodElements, partsFor}
+use Rattle.identifier.specs.Calls.{Lengths}
 use Rattle.identifier.specs.Meaning.{Holds, Points}
-use Rattle.identifier.specs.Demands.{Parter, DoneThree, Room, Short, set, LeavesThree, Counted, PartsIdentifiers, Joiner, Sound, Made, JoinsElements}
-use Rattle.identifier.proofs.Splitting.{right-counted, counted-right}
-use Rattle.identifier.proofs.Holding.{holds-found, found-holds, points-s, s-points}
+use Rattle.identifier.specs.Demands.{Parter, DoneThree, set, LeavesThree, Counted, PartsIdentifiers, Joiner, Sound, Made, JoinsElements}
+use Rattle.identifier.proofs.Splitting.{right-counted}
+use Rattle.identifier.proofs.Holding.{holds-found, found-holds, points-s}
 use Rattle.identifier.proofs.Making.{good-sound, sound-good, sound-made}
 
 -- ---- what the kinds are told by

@@ -2,7 +2,7 @@
 -- `proofs/Promises.antt` shows it of `parting` and `joining`; `proofs/Wrong.antt` shows of several kinds of wrong ones that they do not
 -- have it.
 use mathlib.Core.Path.{_≡_}
-use mathlib.Core.Logic.{_↔_, _⊎_}
+use mathlib.Core.Logic.{_↔_}
 use Prim.Native.Nat.{ℕ, _≤_, _<_}
 use mathlib.Core.Bool.{Bool, true, not}
 use mathlib.Core.List.{List}

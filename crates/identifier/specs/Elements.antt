@@ -6,7 +6,7 @@ use lib.ListN.{length, drop, getD}
 use lib.Dec.{eqb}
 use Rattle.format.specs.Bytes.{if_then_else_, isEmpty, same, between}
 use Rattle.format.specs.Elements.{partsOf, ordinalOf, setBytes, form, value}
-use Rattle.identifier.specs.Parts.{dotless, parts, dotted}
+use Rattle.identifier.specs.Parts.{dotless, dotted}
 use Rattle.identifier.specs.SetDigits.{totalIn, ordinalIn, saysSet, setPart}
 
 -- one thing for each: element 1, the identifier; element 3, the ISIL; element 4, the set information

@@ -1,42 +1,20 @@
 -- Good elements: what the tests of code say of them, and what their identifier is.
-use mathlib.Core.Path.{_≡_, refl, sym, ap, ap₂, _∙_}
-use Prim.Native.Nat.{ℕ, suc, _+_, _≤_, _<_}
-use native.Mathlib.Nat.{le-of-suc-le-suc, not-suc-le-zero}
+use mathlib.Core.Path.{_≡_, sym, ap, ap₂, _∙_}
+use Prim.Native.Nat.{ℕ, _+_, _≤_, _<_}
 use native.Mathlib.Omega.{arith}
-use mathlib.Core.Bool.{Bool, true, false, not, _&&_}
-use mathlib.Core.List.{List, [], _∷_, _++_, append-assoc}
+use mathlib.Core.Bool.{true, false, _&&_}
+use mathlib.Core.List.{List, _++_, append-assoc}
 use lib.ListN.{length, getD, length-append}
-use lib.Dec.{eqb}
 use borrow.Author.Tests.{eqb-true, leb-true}
-use Rattle.format.specs.Bytes.{if_then_else_, all, upTo, word}
+use Rattle.format.specs.Bytes.{word}
 use Rattle.format.specs.Elements.{partsOf, ordinalOf, setInfo, shape, form, value}
 use Rattle.format.proofs.Strings.{not-empty, is-empty}
 use Rattle.format.proofs.Tests.{and-i, and-left, and-no, and-iff}
 use Rattle.format.proofs.Values.{value-short}
-use Rattle.identifier.specs.Parts.{dot, dotless}
+use Rattle.identifier.specs.Parts.{dotless}
 use Rattle.identifier.specs.Elements.{three, goodElements, identifierOf}
 use Rattle.joining.specs.Laying.{isilFront, setEnd}
 use Rattle.joining.proofs.Pieces.{identifier-pieces, any-ordinal}
-
--- ---- a text up to its first dot
-
-pub dot-before : (s : List ℕ) → length (upTo dot s) < length s → dotless s ≡ false
-unfolding upTo all
-dot-before [] h = absurd (not-suc-le-zero h)
-dot-before (c ∷ s) h = go (eqb c dot) h (dot-before s)
-  where
-    go : (t : Bool) → length (if t then [] else (c ∷ upTo dot s)) < suc (length s) → (length (upTo dot s) < length s → dotless s ≡ false) → not t && dotless s ≡ false
-    go true k ih = refl
-    go false k ih = ih (le-of-suc-le-suc k)
-
-pub dot-nowhere : (s : List ℕ) → length s ≤ length (upTo dot s) → dotless s ≡ true
-unfolding upTo all
-dot-nowhere [] h = refl
-dot-nowhere (c ∷ s) h = go (eqb c dot) h (dot-nowhere s)
-  where
-    go : (t : Bool) → suc (length s) ≤ length (if t then [] else (c ∷ upTo dot s)) → (length s ≤ length (upTo dot s) → dotless s ≡ true) → not t && dotless s ≡ true
-    go true k ih = absurd (not-suc-le-zero k)
-    go false k ih = ih (le-of-suc-le-suc k)
 
 -- ---- an ISIL, or none
 
@@ -55,9 +33,9 @@ module _ (x i s : List ℕ) where
   unfolding goodElements
   bad-item e = and-left _ _ (and-left _ _ (and-left _ _ e))
 
-  pub dot-in-item : length (upTo dot x) < length x → goodElements (three x i s) ≡ false
+  pub dot-in-item : dotless x ≡ false → goodElements (three x i s) ≡ false
   unfolding goodElements
-  dot-in-item h = and-left _ _ (and-left _ _ (and-no (form 1 x) _ (dot-before x h)))
+  dot-in-item e = and-left _ _ (and-left _ _ (and-no (form 1 x) _ e))
 
   pub bad-isil : 0 < length i → form 3 i ≡ false → goodElements (three x i s) ≡ false
   unfolding goodElements value
@@ -67,9 +45,9 @@ module _ (x i s : List ℕ) where
   unfolding goodElements
   bad-set e = and-no (form 1 x && dotless x && value 3 i) _ e
 
-  pub all-good : form 1 x ≡ true → length x ≤ length (upTo dot x) → value 3 i ≡ true → form 4 s ≡ true → goodElements (three x i s) ≡ true
+  pub all-good : form 1 x ≡ true → dotless x ≡ true → value 3 i ≡ true → form 4 s ≡ true → goodElements (three x i s) ≡ true
   unfolding goodElements
-  all-good a b c d = and-i (and-i (and-i a (dot-nowhere x b)) c) d
+  all-good a b c d = and-i (and-i (and-i a b) c) d
 
 -- ---- good elements
 

@@ -7,10 +7,9 @@ use mathlib.Core.Bool.{Bool, true, false, not}
 use mathlib.Core.List.{List, [], _∷_}
 use lib.ListN.{length, take, drop, length-take, length-drop, drop-of-length-le}
 use lib.Seq.{take-all}
-use lib.Dec.{leb}
 use borrow.Author.Tests.{leb-true, le-leb, eqb-true, eq-eqb}
 use Rattle.format.specs.Answers.{plain, got, refused, need, inOrder}
-use Rattle.format.specs.Bytes.{if_then_else_, all, same}
+use Rattle.format.specs.Bytes.{all, same}
 use Rattle.format.proofs.Answers.{next-ok, next-no, none-ok}
 use Rattle.format.proofs.Strings.{rest-opened}
 use Rattle.format.proofs.Tests.{never, and-i, and-iff, or-l, same-truth, all-take, all-drop}

@@ -11,13 +11,13 @@ use Rattle.format.specs.Bytes.{upTo, le16, filled}
 use Rattle.format.specs.Elements.{setBytes, form}
 use Rattle.format.specs.Numbers.{numberOf}
 use Rattle.format.specs.Pieces.{stored}
-use Rattle.format.proofs.Answers.{need-inv, need-refused, next-ok, next-no, none-ok, first-no, refused-on, passed-on, worked, afterwards-got, afterwards-refused}
+use Rattle.format.proofs.Answers.{need-inv, need-refused, next-ok, next-no, none-ok, first-no, refused-on, passed-on, worked}
 use Rattle.format.proofs.Pieces.{stored-front}
 use Rattle.format.proofs.Tests.{and-i, and-left, and-no}
 use Rattle.identifier.specs.declared.PartedAnswer.the-variants.{Done, Refused}
 use Rattle.identifier.specs.Parts.{dot, parts}
 use Rattle.identifier.specs.Elements.{Elements, three, rightCount, isilPart, itemPart, setPlace, pointing, goodSet, goodParts, setOf, elementsOf}
-use Rattle.identifier.specs.Calls.{Lengths, lengths, roomFor, partSteps, filledAll, parting, FillsThree}
+use Rattle.identifier.specs.Calls.{Lengths, lengths, roomFor, partSteps, parting, FillsThree}
 use Rattle.identifier.proofs.Outcomes.{three-refused, three-done}
 use Rattle.parting.specs.Places.{isilIn, restIn, placeIn}
 use Rattle.parting.specs.Sets.{SetNumbers, numbersIn, standsIn}

@@ -4,7 +4,6 @@ ghost use mathlib.Core.Bool.{true};
 ghost use mathlib.Core.List.{[], _∷_};
 ghost use Prim.Native.Nat.{_≤_};
 ghost use lib.ListN.{length, drop};
-ghost use Rattle.format.specs.Answers.{need};
 ghost use Rattle.format.specs.Bytes.{all, same};
 ghost use Rattle.format.specs.Elements.{setBytes};
 ghost use Rattle.format.specs.Numbers.{numberOf};

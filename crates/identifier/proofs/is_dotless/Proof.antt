@@ -1,4 +1,5 @@
 -- The invariant: whether the bytes before `i` are other than a dot decides, with those from `i` on. The measure is what is left.
+use mathlib.Core.Path.{refl}
 use mathlib.Core.Bool.{not}
 use Prim.Native.Nat.{ℕ, _-_}
 use lib.Dec.{eqb}
@@ -21,7 +22,7 @@ loop-holds c = before-start _ (c .args .s .now)
 loop-again : tie.Need-loop-again Inv-loop μ-loop
 loop-again c =
     let l = c .before .before .loop in
-    before-on _ (c .before .before .before .args .s .now) (l .i) (l .none) (l .inv) (c .before .loop-test .taken)
+    before-on _ (c .before .before .before .args .s .now) (l .i) (l .none) _ (l .inv) (c .before .loop-test .taken) refl
 
 returns : tie.Need-returns Inv-loop μ-loop
 returns c =

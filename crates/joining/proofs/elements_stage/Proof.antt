@@ -16,13 +16,13 @@ returns c =
     let a = c .before .before .before .before .before .args in
     sym (need-no 9 _ (bad-item (a .item .now) (a .isil .now) (a .set .now) (sym (c .before .formed .ensures) ∙ not-true _ (c .if1 .taken))))
 
-up-to-requires : tie.Need-up-to-requires
-up-to-requires c κs = search needs
+is-dotless-requires : tie.Need-is-dotless-requires
+is-dotless-requires c κs = search needs
 
 returns-2 : tie.Need-returns-2
 returns-2 c =
     let a = c .before .before .before .before .before .before .before .args in
-    sym (need-no 9 _ (dot-in-item (a .item .now) (a .isil .now) (a .set .now) (rw (c .before .up-to .ensures) at (c .if2 .taken))))
+    sym (need-no 9 _ (dot-in-item (a .item .now) (a .isil .now) (a .set .now) (sym (c .before .is-dotless .ensures) ∙ not-true _ (c .if2 .taken))))
 
 formed-requires-2 : tie.Need-formed-requires-2
 formed-requires-2 c κs = search needs
@@ -44,7 +44,7 @@ returns-5 : tie.Need-returns-5
 returns-5 c =
     let a = c .before .before .before .before .before .before .before .before .before .before .args in
     let item = sym (c .before .before .before .before .before .before .formed .ensures) ∙ not-false _ (c .before .before .before .before .before .if1 .left) in
-    let dots = rw (c .before .before .before .before .up-to .ensures) at (c .before .before .before .if2 .left) in
+    let dots = sym (c .before .before .before .before .is-dotless .ensures) ∙ not-false _ (c .before .before .before .if2 .left) in
     let isil = ⊎-elim (λ w. some-value (a .isil .now) (w .0 .taken) (sym (w .1 .ensures) ∙ not-false _ (w .2 .left))) (λ w. none-value (a .isil .now) (w .left)) (c .before .before .if3 .came) in
     let set = sym (c .before .formed3 .ensures) ∙ not-false _ (c .if5 .left) in
     sym (need-ok 9 _ (all-good (a .item .now) (a .isil .now) (a .set .now) item dots isil set))
@@ -55,7 +55,7 @@ elements-stage-spec =
     (tie.spec
     formed-requires
     returns
-    up-to-requires
+    is-dotless-requires
     returns-2
     formed-requires-2
     returns-3

@@ -1,8 +1,6 @@
 -- Fewer than sixteen bytes are left, or the next sixteen are looked at.
-use mathlib.Core.Path.{sym, ap, _∙_}
-use Prim.Native.Nat.{ℕ, _+_, _-_}
-use native.Mathlib.Omega.{arith}
-use lib.ListN.{length, take, drop, length-drop}
+use mathlib.Core.Path.{_∙_}
+use Prim.Native.Nat.{_-_}
 use borrow.Author.Needs.{needs}
 use Rattle.parting.proofs.Seeking.{fewer, next-sixteen}
 use Rattle.parting.proofs.places.sixteen_dotless.Statement.{statement}
