@@ -1,7 +1,7 @@
 #!/usr/bin/env python3
 """Wrong definitions, and whether any theorem or table sees that they are wrong: tests/definitions.py [CRATE/FILE ..], as format/Fields.antt
 
-Raises each number of the definitions of format and words by one, one at a time, in copies under target/definitions, and checks the crate. Pieces
+Raises each number of the definitions of format, words and identifier by one, one at a time, in copies under target/definitions, and checks the crate. Pieces
 of format is left out: no rule stands there, and only crates above use them. Prints each change that nothing refuses. Ends with 1 where one of them
 should be refused. About 15 minutes for all files, on two cores; no part of tests/run.
 """
@@ -14,7 +14,7 @@ import subprocess
 import sys
 
 ROOT = pathlib.Path(__file__).resolve().parent.parent
-CRATES = {'format': 'format:\n', 'words': 'format:\nwords: format\n'}
+CRATES = {'format': 'format:\n', 'words': 'format:\nwords: format\n', 'identifier': 'format:\nwords: format\nidentifier: format words\n'}
 WORK = ROOT / 'target' / 'definitions'
 RULELESS = {'Lib.antt', 'Pieces.antt'}  # of any crate
 NUMBER = re.compile(r'(?<![\w.·{])(?<!Type )(?:0x[0-9A-Fa-f]+|\d+)(?![\w}])')

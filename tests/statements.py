@@ -18,7 +18,7 @@ import sys
 
 ROOT = pathlib.Path(__file__).resolve().parent.parent
 PUBLIC = re.compile(r'\bpub\s+(?:extern\s+"C"\s+)?fn\s+(\w+)')
-CALLED_FROM_OUTSIDE = {'reading', 'writing', 'editing', 'decoding', 'encoding', 'capi', 'listing'}
+CALLED_FROM_OUTSIDE = {'reading', 'writing', 'editing', 'decoding', 'encoding', 'parting', 'joining', 'capi', 'listing'}
 CLAUSE = re.compile(r'\s*(requires|ensures)\b[^{]*')
 RESULT = re.compile(r'\s*->\s*([^{}]*?)(?=\s*(?:requires\b|ensures\b|\{))')
 USED = re.compile(r'(?m)^(?:ghost )?use ([^;{\n]+)\.\{([^}]*)\}')
