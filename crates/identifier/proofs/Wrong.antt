@@ -21,18 +21,18 @@ use Rattle.identifier.specs.Elements.{three, Elements, rightCount, point
 use Rattle.identifier.specs.Calls.{Lengths}
 use Rattle.identifier.specs.Meaning.{Holds, Points}
 use Rattle.identifier.specs.Demands.{Parter, DoneThree, set, LeavesThree, Counted, PartsIdentifiers, Joiner, Sound, Made, JoinsElements}
-use Rattle.identifier.proofs.Splitting.{right-counted}
+use Rattle.identifier.proofs.Splitting.{right-counted, counted-right}
 use Rattle.identifier.proofs.Holding.{holds-found, found-holds, points-s}
 use Rattle.identifier.proofs.Making.{good-sound, sound-good, sound-made}
 
 -- ---- what the kinds are told by
 
--- A, A.B; DK-1 and 31
+-- A, A.A; DK-1 and 31
 abbrev a : List ℕ
 a = 0x41 ∷ []
 
-abbrev a-b : List ℕ
-a-b = 0x41 ∷ 0x2E ∷ 0x42 ∷ []
+abbrev a-a : List ℕ
+a-a = 0x41 ∷ 0x2E ∷ 0x41 ∷ []
 
 abbrev dk : List ℕ
 dk = 0x44 ∷ 0x4B ∷ 0x2D ∷ 0x31 ∷ []
@@ -78,11 +78,19 @@ facts = record {
   s-behind = found-holds true (dk ++ (0x2E ∷ 0x53 ∷ [])) refl refl refl;
 }
 
--- A.00, A.0901 (a total of 9 in four digits), A.12 (ordinal above total), A.260004, A. and .S
+-- A.00, A.0901 (a total of 9 in four digits), A.12 (ordinal above total), A.260004, A. and .S; with an ISIL dk-1.A
 pub unfits : Unfit false (with-set (0x30 ∷ 0x30 ∷ [])) × Unfit false (with-set (0x30 ∷ 0x39 ∷ 0x30 ∷ 0x31 ∷ [])) × Unfit false (with-set (0x31 ∷ 0x32 ∷ []))
-    × Unfit false (with-set (0x32 ∷ 0x36 ∷ 0x30 ∷ 0x30 ∷ 0x30 ∷ 0x34 ∷ [])) × Unfit false (with-set []) × Unfit false (0x2E ∷ 0x53 ∷ [])
-unfolding all same rows after rowsFrom text shape form onFirst parts numberFrom width saysSet rightCount goodSet goodParts
-unfits = (unfit false _ refl refl, unfit false _ refl refl, unfit false _ refl refl, unfit false _ refl refl, unfit false _ refl refl, unfit false _ refl refl)
+    × Unfit false (with-set (0x32 ∷ 0x36 ∷ 0x30 ∷ 0x30 ∷ 0x30 ∷ 0x34 ∷ [])) × Unfit false (with-set []) × Unfit false (0x2E ∷ 0x53 ∷ []) × Unfit true (0x64 ∷ 0x6B ∷ 0x2D ∷ 0x31 ∷ 0x2E ∷ a)
+unfolding all same upTo past rows after rowsFrom text capital unitByte isilOf isil shape form onFirst parts numberFrom width saysSet rightCount goodSet goodParts
+unfits = (unfit false _ refl refl, unfit false _ refl refl, unfit false _ refl refl, unfit false _ refl refl, unfit false _ refl refl, unfit false _ refl refl, unfit true _ refl refl)
+
+-- A.A.A has a part too many without an ISIL, DK-1 one too few with it
+uncounted : (leads : Bool) (s : List ℕ) → rightCount leads (parts s) ≡ false → Counted leads s → ⊥
+uncounted leads s r c = never (cc (r, counted-right leads s c))
+
+pub miscounted : (Counted false (0x41 ∷ 0x2E ∷ a-a) → ⊥) × (Counted true dk → ⊥)
+unfolding onFirst parts rightCount
+miscounted = (uncounted false (0x41 ∷ 0x2E ∷ a-a) refl, uncounted true dk refl)
 
 -- ==== taking apart
 
@@ -108,6 +116,10 @@ module _ (f : Parter) (d : PartsIdentifiers f) where
   -- text is taken that is no identifier: 00 as a set, a total of 9 in four digits, an ordinal above the total, 260004 as a set of 4, an empty part
   pub parter-taking : (leads : Bool) (s : List ℕ) → Unfit leads s → (buffers : Elements) (n : Lengths) → f leads s buffers .answer ≡ got n → ⊥
   parter-taking leads s u buffers n e = no-refusal (d .bad leads s buffers .1 (u .counted, u .holds-nothing, u .points-nowhere)) e
+
+  -- text is taken that has too many parts, or too few
+  pub parter-miscounting : (leads : Bool) (s : List ℕ) → (Counted leads s → ⊥) → (buffers : Elements) (n : Lengths) → f leads s buffers .answer ≡ got n → ⊥
+  parter-miscounting leads s u buffers n e = no-refusal (d .count leads s buffers .1 u) e
 
   -- S before a bad part is told: 23 before 6
   pub parter-seeing-s-first : ((buffers : Elements) → f false (0x2E ∷ 0x53 ∷ []) buffers .answer ≡ refused (plain 23)) → ⊥
@@ -157,10 +169,10 @@ made-facts = record {
 unsound : (e : Elements) → goodElements e ≡ false → Sound e → ⊥
 unsound e g s = never (cc (sound-good e s, g))
 
--- A.B as an identifier; 260 parts, and part 4 of them; no element 4
-pub unsounds : (Sound (three a-b [] none) → ⊥) × (Sound (three a [] (4 ∷ 1 ∷ 4 ∷ 0 ∷ [])) → ⊥) × (Sound (three a [] []) → ⊥)
+-- A.A as an identifier; 260 parts, and part 4 of them; no element 4
+pub unsounds : (Sound (three a-a [] none) → ⊥) × (Sound (three a [] (4 ∷ 1 ∷ 4 ∷ 0 ∷ [])) → ⊥) × (Sound (three a [] []) → ⊥)
 unfolding all same rows after rowsFrom text setInfo shape form value word goodElements
-unsounds = (unsound (three a-b [] none) refl, unsound (three a [] (4 ∷ 1 ∷ 4 ∷ 0 ∷ [])) refl, unsound (three a [] []) refl)
+unsounds = (unsound (three a-a [] none) refl, unsound (three a [] (4 ∷ 1 ∷ 4 ∷ 0 ∷ [])) refl, unsound (three a [] []) refl)
 
 module _ (f : Joiner) (d : JoinsElements f) where
   makes-a : Done (f (three a [] none) (9 ∷ 9 ∷ 9 ∷ 9 ∷ [])) a (9 ∷ 9 ∷ 9 ∷ 9 ∷ [])
