@@ -30,6 +30,8 @@ SAME = [
     ('format/Sheet.antt', 'record { number = getD h 0 1; bytes = take n b } ∷ cut k (drop 4 h) (drop n b)', 'a head that the sheet lacks makes another sheet, so 8'),
     ('format/Sheet.antt', 'countIn s = word (getD s 0 1) (getD s 1 0)', 'no entries make a sheet of fewer than 2 bytes, so it is 8'),
     ('format/Sheet.antt', 'countIn s = word (getD s 0 0) (getD s 1 1)', 'no entries make a sheet of fewer than 2 bytes, so it is 8'),
+    ('identifier/Demands.antt', 'pub not-taken : (leads : Bool) (s : List ℕ) (t o : ℕ) (buffers : Elements) → Tells leads s t o → 256 < t → part leads s buffers .answer ≡ refused (plain 6)', 'asks less; a total of 256 is refused by PartsIdentifiers too'),
+    ('identifier/Demands.antt', 'pub not-put : (e : Elements) (buffer : List ℕ) → 256 < partsOf (e .set) → join e buffer .answer ≡ refused (plain 9)', 'asks less; 256 parts are refused by JoinsElements too'),
 ]
 
 
