@@ -19,6 +19,9 @@ ghost use Rattle.joining.specs.Laying.{isilFront, setEnd};
 fn elements_stage(item: &[u8], isil: &[u8], set: &[u8]) -> Stage
     ensures { λ r. ⌜ stageGiven r ≡ need 9 (goodElements (three (now (item .entry)) (now (isil .entry)) (now (set .entry)))) ⌝ }
 {
+    if !elements::formed(4, set) {
+        return Stage::Refused(9);
+    }
     if !elements::formed(1, item) {
         return Stage::Refused(9);
     }
@@ -29,9 +32,6 @@ fn elements_stage(item: &[u8], isil: &[u8], set: &[u8]) -> Stage
         if !elements::formed(3, isil) {
             return Stage::Refused(9);
         }
-    }
-    if !elements::formed(4, set) {
-        return Stage::Refused(9);
     }
     Stage::Passed
 }
@@ -54,7 +54,11 @@ fn set_length(total: u8) -> usize
     if total == 0 {
         return 0;
     }
-    1 + 2 * identifier::width(total)
+    match identifier::width(total) {
+        1 => 3,
+        2 => 5,
+        _ => 7,
+    }
 }
 
 // Each `put_` function stores a piece from `at` on, or at the front, and answers the place behind it.
