@@ -6,11 +6,9 @@ use mathlib.Core.Bool.{true}
 use native.Mathlib.Nat.{add-zero, zero-add}
 use mathlib.Core.List.{List, [], _∷_, _++_, append-assoc, append-nil}
 use lib.ListN.{length, length-append}
-use lib.Dec.{leb}
-use borrow.Author.Tests.{leb-true}
 use Rattle.format.specs.Bytes.{all}
 use Rattle.format.proofs.Tests.{and-l, and-r, and-i}
-use Rattle.words.proofs.Cases.{within}
+use Rattle.format.proofs.Text.{between-i, between-facts}
 use Rattle.identifier.specs.SetDigits.{digit, numberFrom, numberIn, digits}
 use Rattle.identifier.specs.Meaning.{Digits, none, more}
 
@@ -43,7 +41,7 @@ all-behind (b ∷ s) c e h = and-i (and-l (digit b) (all digit s) e) (all-behind
 pub digits-all : {k n : ℕ} {s : List ℕ} → Digits k n s → all digit s ≡ true
 unfolding all
 digits-all none = refl
-digits-all (more {k} {n} {d} {s} h l) = all-behind s (0x30 + d) (digits-all h) (within 0x30 0x39 (0x30 + d) (omega arith) (omega arith))
+digits-all (more {k} {n} {d} {s} h l) = all-behind s (0x30 + d) (digits-all h) (between-i {low = 0x30} {high = 0x39} {b = 0x30 + d} (omega arith) (omega arith))
 
 pub digits-below : {k n : ℕ} {s : List ℕ} → Digits k n s → n < tens k
 unfolding tens
@@ -78,9 +76,9 @@ unfolding all numberFrom
 digits-behind {j} {n} {a} h [] e = rw (append-nil a, add-zero j) h
 digits-behind {j} {n} {a} h (c ∷ s) e =
     let is : digit c ≡ true = and-l (digit c) (all digit s) e in
-    let low : 0x30 ≤ c = leb-true 0x30 c (and-l (leb 0x30 c) (leb c 0x39) is) in
-    let high : c - 0x30 ≤ 9 = let t : c ≤ 0x39 = leb-true c 0x39 (and-r (leb 0x30 c) (leb c 0x39) is) in omega arith in
-    let back : 0x30 + (c - 0x30) ≡ c = omega arith in
+    let range = between-facts 0x30 0x39 c is in
+    let high : c - 0x30 ≤ 9 = omega (arith, range) in
+    let back : 0x30 + (c - 0x30) ≡ c = omega (arith, range) in
     let one : Digits (suc j) (10 * n + (c - 0x30)) (a ++ ((0x30 + (c - 0x30)) ∷ [])) = more h high in
     let next = digits-behind (rw back at one) s (and-r (digit c) (all digit s) e) in
     let count : suc j + length s ≡ j + suc (length s) = omega arith in

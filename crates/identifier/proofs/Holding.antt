@@ -7,11 +7,12 @@ use mathlib.Core.Bool.{Bool, true, false, not, _&&_, _||_}
 use mathlib.Core.List.{List, [], _∷_, _++_, append-assoc, append-nil}
 use lib.ListN.{length}
 use lib.Dec.{eqb, leb}
-use borrow.Author.Tests.{leb-true, eqb-true}
+use borrow.Author.Tests.{eqb-true}
 use Rattle.format.specs.Bytes.{isEmpty, all, same, between, upTo, past, le16}
 use Rattle.format.specs.Fields.{capital, unitByte, hyphen, isil}
 use Rattle.format.specs.Elements.{shape, form}
 use Rattle.format.proofs.Tests.{never, and-l, and-r, and-i, or-inv, or-r, all-append, all-mono, same-eq}
+use Rattle.format.proofs.Text.{between-facts}
 use Rattle.format.proofs.Fields.{isil-facts, isil-whole, isil-first}
 use Rattle.words.proofs.Cases.{decide}
 use Rattle.identifier.specs.Parts.{dot, dotless, parts, dotted}
@@ -56,7 +57,7 @@ pub data Shape : Bool → List (List ℕ) → Type 0 where
   with-both : (i x p : List ℕ) → Shape true (i ∷ x ∷ p ∷ [])
 
 too-many : (a b n : ℕ) → b < n → between a b n ≡ true → ⊥
-too-many a b n h e = omega (arith, leb-true n b (and-r (leb a n) (leb n b) e))
+too-many a b n h e = omega (arith, between-facts a b n e .1)
 
 pub shaped : (leads : Bool) (ps : List (List ℕ)) → rightCount leads ps ≡ true → Shape leads ps
 unfolding rightCount

@@ -18,7 +18,7 @@ use Rattle.format.proofs.Promises.{exactly}
 use Rattle.format.proofs.Refusals.{test, listed, zero-done}
 use Rattle.format.proofs.Tests.{never}
 use Rattle.words.specs.Calls.{filling, FillsC}
-use Rattle.words.specs.Demands.{Done}
+use Rattle.words.specs.Demands.{LeavesAlone, Done}
 use Rattle.words.proofs.Cases.{decide}
 use Rattle.words.proofs.Outcomes.{answer-bad, answer-short, answer-good, good-got, bad-refused, short-refused}
 use Rattle.words.proofs.Promises.{filled-zero}
@@ -29,7 +29,7 @@ use Rattle.identifier.specs.SetDigits.{digit, digits, totalIn, ordinalIn
 use Rattle.identifier.specs.Elements.{Elements, rightCount, goodParts, pointing, setPlace, goodElements, elementsOf, identifierOf}
 use Rattle.identifier.specs.Calls.{Lengths, lengths, roomFor, partSteps, partGives, Parted, filledAll, parting, joinSteps, joinGives, joining, partedGiven, FillsThree, FillsThreeC}
 use Rattle.identifier.specs.Meaning.{SameNumbers, Holds, Points}
-use Rattle.identifier.specs.Demands.{DoneThree, Room, Short, LeavesThree, PartsIdentifiers, Made, LeavesAlone, JoinsElements, fronts, TakesBack, PutsBack}
+use Rattle.identifier.specs.Demands.{DoneThree, Room, Short, LeavesThree, PartsIdentifiers, Made, JoinsElements, fronts, TakesBack, PutsBack}
 use Rattle.identifier.proofs.Splitting.{right-counted, counted-right}
 use Rattle.identifier.proofs.Digits.{tens}
 use Rattle.identifier.proofs.Sets.{set-bytes, same-length, same-digits, same-read, same-written, same-bytes, same-below, read-same, written-same}

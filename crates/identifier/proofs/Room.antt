@@ -14,8 +14,8 @@ use Rattle.format.proofs.Tests.{and-r, and-iff}
 use Rattle.format.proofs.Fields.{isil-whole}
 use Rattle.identifier.specs.Parts.{dot}
 use Rattle.identifier.specs.Elements.{Elements}
-use Rattle.identifier.specs.Meaning.{item, isil as led, Item, Ends, none, set, Width, one-digit, two-digits, three-digits, Holds, holds}
-use Rattle.identifier.proofs.Sets.{same-length}
+use Rattle.identifier.specs.Meaning.{item, isil as led, Item, Ends, none, set, Holds, holds}
+use Rattle.identifier.proofs.Sets.{width-is, width-few, same-length}
 use Rattle.identifier.proofs.Holding.{form-isil}
 
 isil-length : (i : List ℕ) → form 3 i ≡ true → length i ≤ 16
@@ -32,14 +32,9 @@ item-length : (x : List ℕ) → Item x → length x ≤ 255
 unfolding form
 item-length x it = leb-true (length x) 255 (and-r (shape 1 x) (leb (length x) 255) (it .formed))
 
-width-length : {t k : ℕ} → Width t k → k ≤ 3
-width-length (one-digit l h) = omega arith
-width-length (two-digits l h) = omega arith
-width-length (three-digits l h) = omega arith
-
 ends-length : {e back : List ℕ} → Ends e back → (length e ≡ 4) × (length back ≤ 7)
 ends-length none = (refl, omega arith)
-ends-length (set (set w l s)) = (refl, omega (arith, width-length w, same-length s))
+ends-length (set (set {t} w l s)) = (refl, omega (arith, width-is w, width-few t .1, same-length s))
 
 pub part-room : (leads : Bool) (s : List ℕ) (e : Elements) → Holds leads s e → (length (e .item) ≤ 255) × (length (e .isil) ≤ 16) × (length (e .set) ≡ 4)
 part-room leads s e h = go h

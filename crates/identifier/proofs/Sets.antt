@@ -10,9 +10,10 @@ use lib.Dec.{leb, eqb}
 use borrow.Author.Tests.{le-leb, lt-leb, leb-true, leb-false, eqb-true, eq-eqb, ne-eqb}
 use Rattle.format.specs.Bytes.{all, same, le16, word}
 use Rattle.format.specs.Elements.{partsOf, ordinalOf, setBytes, setInfo, shape, form, value}
-use Rattle.format.proofs.Tests.{never, and-l, and-i, and-iff, all-append, all-take, all-drop, all-mono, same-eq}
+use Rattle.format.proofs.Tests.{never, and-i, and-iff, all-append, all-take, all-drop, all-mono, same-eq}
+use Rattle.format.proofs.Text.{between-i, between-facts}
 use Rattle.format.proofs.Values.{value-set}
-use Rattle.words.proofs.Cases.{decide, within}
+use Rattle.words.proofs.Cases.{decide}
 use Rattle.identifier.specs.Parts.{dot, dotless}
 use Rattle.identifier.specs.SetDigits.{digit, digits, width, totalIn, ordinalIn, saysSet, setPart}
 use Rattle.identifier.specs.Meaning.{Digits, Width, one-digit, two-digits, three-digits, SameNumbers, same-numbers, SetPart, set}
@@ -43,10 +44,11 @@ is-width t l h =
     decide (leb t 9) (λ e. rw e (one-digit l (leb-true t 9 e)))
     (λ e. decide (leb t 99) (λ f. rw (e, f) (two-digits (leb-false t 9 e) (leb-true t 99 f))) (λ f. rw (e, f) (three-digits (leb-false t 99 f) h)))
 
-pub width-few : (t : ℕ) → width t ≤ 3
+pub width-few : (t : ℕ) → (1 ≤ width t) × (width t ≤ 3)
 unfolding width
 width-few t =
-    decide (leb t 9) (λ e. rw e (omega arith)) (λ e. decide (leb t 99) (λ f. rw (e, f) (omega arith)) (λ f. rw (e, f) (omega arith)))
+    decide (leb t 9) (λ e. rw e (omega arith, omega arith))
+    (λ e. decide (leb t 99) (λ f. rw (e, f) (omega arith, omega arith)) (λ f. rw (e, f) (omega arith, omega arith)))
 
 -- ---- element 4
 
@@ -147,6 +149,32 @@ written-same k t o h i l m = same-numbers (are-digits k t l) (are-digits k o m) 
 
 -- ---- a part that is set information
 
+-- the tests that it passes
+pub record Says (p : List ℕ) : Type 0 where
+  pub digits : all digit p ≡ true
+  pub some : 1 ≤ totalIn p
+  pub most : totalIn p ≤ 255
+  pub long : length p ≡ 2 * width (totalIn p)
+  pub ordered : ordinalIn p ≤ totalIn p
+
+pub says-of : (p : List ℕ) → saysSet p ≡ true → Says p
+unfolding saysSet
+says-of p e =
+    let h = simp and-iff at e in
+    record {
+      digits = h .0 .0 .0;
+      some = leb-true 1 (totalIn p) (h .0 .0 .1 .0);
+      most = leb-true (totalIn p) 255 (h .0 .0 .1 .1);
+      long = eqb-true (length p) (2 * width (totalIn p)) (h .0 .1);
+      ordered = leb-true (ordinalIn p) (totalIn p) (h .1);
+    }
+
+pub of-says : (p : List ℕ) → Says p → saysSet p ≡ true
+unfolding saysSet
+of-says p s =
+    and-i (and-i (and-i (s .digits) (between-i {low = 1} {high = 255} {b = totalIn p} (s .some) (s .most))) (eq-eqb (length p) (2 * width (totalIn p)) (s .long)))
+    (le-leb (ordinalIn p) (totalIn p) (s .ordered))
+
 pub set-total : {p e : List ℕ} → SetPart p e → (1 ≤ partsOf e) × (partsOf e ≤ 255) × (ordinalOf e ≤ partsOf e)
 set-total (set {k} {t} {o} {p} w l s) = let n = bytes-numbers t o in rw (n .0, n .1) (width-range w .0, width-range w .1, l)
 
@@ -157,24 +185,25 @@ pub set-of : {p e : List ℕ} → SetPart p e → setBytes (totalIn p) (ordinalI
 set-of (set w l s) = ap₂ setBytes (same-read s .0) (same-read s .1) ∙ same-bytes s .2
 
 pub set-said : {p e : List ℕ} → SetPart p e → saysSet p ≡ true
-unfolding saysSet
 set-said (set {k} {t} {o} {p} w l s) =
     let n = bytes-numbers t o in
     let total : totalIn p ≡ t = same-read s .0 ∙ n .0 in
     let ordinal : ordinalIn p ≡ o = same-read s .1 ∙ n .1 in
-    let long : length p ≡ 2 * width t = same-length s ∙ ap (λ (j : ℕ). 2 * j) (sym (width-is w)) in
-    rw (total, ordinal) (and-i (and-i (and-i (same-digits s) (within 1 255 t (width-range w .0) (width-range w .1))) (eq-eqb (length p) (2 * width t) long)) (le-leb o t l))
+    let range = width-range w in
+    of-says p
+    (record {
+      digits = same-digits s;
+      some = omega (arith, total, range);
+      most = omega (arith, total, range);
+      long = same-length s ∙ ap (λ (j : ℕ). 2 * j) (sym (ap width total ∙ width-is w));
+      ordered = omega (arith, total, ordinal);
+    })
 
 pub said-set : (p : List ℕ) → saysSet p ≡ true → SetPart p (totalIn p ∷ 0 ∷ ordinalIn p ∷ 0 ∷ [])
-unfolding saysSet
 said-set p e =
-    let t : ℕ = totalIn p in
-    let o : ℕ = ordinalIn p in
-    let h = simp and-iff at e in
-    let low : 1 ≤ t = leb-true 1 t (h .0 .0 .1 .0) in
-    let high : t ≤ 255 = leb-true t 255 (h .0 .0 .1 .1) in
-    let most : o ≤ t = leb-true o t (h .1) in
-    set (is-width t low high) most (read-same (width t) p (eqb-true (length p) (2 * width t) (h .0 .1)) (h .0 .0 .0) high (omega arith))
+    let h = says-of p e in
+    let most : ordinalIn p ≤ 255 = omega (arith, h .most, h .ordered) in
+    set (is-width (totalIn p) (h .some) (h .most)) (h .ordered) (read-same (width (totalIn p)) p (h .long) (h .digits) (h .most) most)
 
 -- element 4 of it, and the part of an element 4
 pub set-form : {p e : List ℕ} → SetPart p e → form 4 e ≡ true
@@ -201,7 +230,7 @@ written-set e f l =
 
 -- it holds no dot, and is not S
 digit-other : (c : ℕ) → digit c ≡ true → not (eqb c dot) ≡ true
-digit-other c h = let l = leb-true 0x30 c (and-l (leb 0x30 c) (leb c 0x39) h) in rw (ne-eqb c dot (omega arith)) refl
+digit-other c h = rw (ne-eqb c dot (λ e. omega (arith, between-facts 0x30 0x39 c h))) refl
 
 pub digits-whole : (p : List ℕ) → all digit p ≡ true → dotless p ≡ true
 digits-whole p e = all-mono digit (λ c. not (eqb c dot)) digit-other p e

@@ -5,10 +5,11 @@ use native.Mathlib.Omega.{arith}
 use mathlib.Core.Bool.{Bool, true, false, not}
 use mathlib.Core.List.{List, [], _∷_, _++_}
 use lib.ListN.{length}
-use lib.Dec.{eqb, leb}
-use borrow.Author.Tests.{leb-true, eqb-true}
+use lib.Dec.{eqb}
+use borrow.Author.Tests.{eqb-true}
 use Rattle.format.specs.Bytes.{all, between}
 use Rattle.format.proofs.Tests.{and-l, and-r, not-t}
+use Rattle.format.proofs.Text.{between-facts}
 use Rattle.words.proofs.Cases.{decide}
 use Rattle.identifier.specs.Parts.{dot, dotless, onFirst, parts, dotted}
 use Rattle.identifier.specs.Elements.{before, rightCount}
@@ -117,11 +118,9 @@ in-range isil-item-set = refl
 pub right-counted : (leads : Bool) (s : List ℕ) → rightCount leads (parts s) ≡ true → Counted leads s
 unfolding rightCount
 right-counted leads s e =
-    let n : ℕ = length (parts s) in (
-      n,
-      count-parts s,
-      permitted leads n (leb-true (before leads + 1) n (and-l (leb (before leads + 1) n) (leb n (before leads + 2)) e)) (leb-true n (before leads + 2) (and-r (leb (before leads + 1) n) (leb n (before leads + 2)) e)),
-    )
+    let n : ℕ = length (parts s) in
+    let range = between-facts (before leads + 1) (before leads + 2) n e in
+    (n, count-parts s, permitted leads n (range .0) (range .1))
 
 pub counted-right : (leads : Bool) (s : List ℕ) → Counted leads s → rightCount leads (parts s) ≡ true
 unfolding rightCount

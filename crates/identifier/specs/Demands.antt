@@ -72,11 +72,8 @@ pub record Sound (e : Elements) : Type 0 where
 abbrev pub Made : List ℕ → Elements → Type 0
 Made s e = Holds (not (isEmpty (e .isil))) s e
 
-abbrev pub LeavesAlone : Joiner → Type 0
-LeavesAlone f = (e : Elements) (buffer : List ℕ) (x : Refusal) → f e buffer .answer ≡ refused x → f e buffer .buffer ≡ buffer
-
--- The identifier that holds the elements goes out, where there is room for it. 9 exactly where an element has not its form or a dot; 2 exactly
--- where all have, and the room is too short for the identifier.
+-- The identifier that holds the elements goes out, where there is room for it. 9 exactly where an element has not its form, or
+-- the item a dot; 2 exactly where all is good, and the room is too short for the identifier.
 pub record JoinsElements (f : Joiner) : Type 0 where
   pub done : (e : Elements) (s buffer : List ℕ) → Made s e → length s ≤ length buffer → Done (f e buffer) s buffer
   pub bad : (e : Elements) (buffer : List ℕ) → (f e buffer .answer ≡ refused (plain 9)) ↔ (Sound e → ⊥)

@@ -43,14 +43,17 @@ abbrev pub setPlace : Bool → List (List ℕ) → List (List ℕ)
 setPlace leads ps = drop (before leads + 1) ps
 
 -- "A final S in the set's place points to another bank"
+abbrev pub isS : List ℕ → Bool
+isS p = same p (0x53 ∷ [])
+
 unfoldable pub pointing : List (List ℕ) → Bool
 pointing [] = false
-pointing (p ∷ ps) = same p (0x53 ∷ [])
+pointing (p ∷ ps) = isS p
 
 -- a good part in the set's place, or none
 unfoldable pub goodSet : List (List ℕ) → Bool
 goodSet [] = true
-goodSet (p ∷ ps) = same p (0x53 ∷ []) || saysSet p
+goodSet (p ∷ ps) = isS p || saysSet p
 
 -- every part has the form of its place
 unfoldable pub goodParts : Bool → List (List ℕ) → Bool

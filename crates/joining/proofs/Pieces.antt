@@ -5,12 +5,11 @@ use native.Mathlib.Omega.{arith}
 use mathlib.Core.Bool.{Bool, true, false}
 use mathlib.Core.List.{List, [], _∷_, _++_, append-assoc, append-nil}
 use lib.ListN.{length, length-append}
-use lib.Dec.{leb, eqb}
+use lib.Dec.{eqb}
 use borrow.Author.Tests.{eq-eqb, ne-eqb}
 use Rattle.format.specs.Bytes.{if_then_else_, isEmpty}
 use Rattle.format.specs.Elements.{partsOf, ordinalOf}
 use Rattle.format.proofs.Strings.{is-empty, not-empty}
-use Rattle.words.proofs.Cases.{decide}
 use Rattle.identifier.specs.Parts.{dot, dotted}
 use Rattle.identifier.specs.SetDigits.{digits, width, setPart}
 use Rattle.identifier.specs.Elements.{three, partsFor, identifierOf}
@@ -52,10 +51,6 @@ pub digits-length : (k n : ℕ) → length (digits k n) ≡ k
 unfolding digits
 digits-length zero n = refl
 digits-length (suc k) n = length-append (digits k (n / 10)) _ ∙ omega (arith, digits-length k (n / 10))
-
-pub width-some : (n : ℕ) → 1 ≤ width n
-unfolding width
-width-some n = decide (leb n 9) (λ e. rw e (omega arith)) (λ e. decide (leb n 99) (λ f. rw (e, f) (omega arith)) (λ f. rw (e, f) (omega arith)))
 
 pub no-set : (total ordinal : ℕ) → total ≡ 0 → setEnd total ordinal ≡ []
 no-set total ordinal e = rw (eq-eqb total 0 e)

@@ -10,8 +10,9 @@ use Rattle.format.specs.Bytes.{if_then_else_, upTo, past}
 use Rattle.format.proofs.Strings.{rest-opened}
 use Rattle.format.proofs.Text.{between-facts}
 use Rattle.fields.proofs.Places.{past-drop}
-use Rattle.identifier.specs.Parts.{dot, onFirst, parts}
+use Rattle.identifier.specs.Parts.{dot, onFirst, parts, dotted}
 use Rattle.identifier.specs.Elements.{before, rightCount, isilPart, itemPart, setPlace}
+use Rattle.identifier.proofs.Splitting.{parts-some, dotted-parts}
 use Rattle.parting.specs.Places.{isilIn, restIn, placeIn}
 
 -- ---- the first part, and those behind it
@@ -32,9 +33,6 @@ first-part (c ∷ s) = go (eqb c dot) (first-part s)
     go true e = refl
     go false e = let l = first-longer c s (upTo dot s) e in l ∙ ap (λ (ps : List (List ℕ)). (c ∷ upTo dot s) ∷ drop 1 ps) (sym l)
 
-pub on-first-length : (c : ℕ) (s : List ℕ) → length (onFirst c (parts s)) ≡ length (parts s)
-on-first-length c s = ap length (first-longer c s (upTo dot s) (first-part s)) ∙ sym (ap length (first-part s))
-
 -- the parts of what stands behind the first: a dot and more, or nothing
 unfoldable partsBehind : List ℕ → List (List ℕ)
 partsBehind [] = []
@@ -50,20 +48,15 @@ parts-behind (c ∷ s) = go (eqb c dot) (parts-behind s)
     go true e = refl
     go false e = ap (drop 1) (first-longer c s (upTo dot s) (first-part s)) ∙ e
 
-on-lone : (c : ℕ) (s : List ℕ) → parts s ≡ s ∷ [] → onFirst c (parts s) ≡ (c ∷ s) ∷ []
-unfolding onFirst
-on-lone c s e = ap (onFirst c) e
-
 -- a lone part is the whole text
 pub lone-part : (s : List ℕ) → length (parts s) ≤ 1 → parts s ≡ s ∷ []
-unfolding parts
-lone-part [] h = refl
-lone-part (c ∷ s) h = go (eqb c dot) (lone-part s) h
+unfolding dotted
+lone-part s h = go (parts s) refl
   where
-    go : (t : Bool) → (length (parts s) ≤ 1 → parts s ≡ s ∷ []) → length (if t then [] ∷ parts s else onFirst c (parts s)) ≤ 1
-        → (if t then [] ∷ parts s else onFirst c (parts s)) ≡ (c ∷ s) ∷ []
-    go true ih l = absurd (omega (arith, ap length (first-part s)))
-    go false ih l = on-lone c s (ih (omega (arith, on-first-length c s)))
+    go : (ps : List (List ℕ)) → parts s ≡ ps → parts s ≡ s ∷ []
+    go [] e = absurd (omega (arith, parts-some s, ap length e))
+    go (p ∷ []) e = e ∙ ap (λ (q : List ℕ). q ∷ []) (sym (ap dotted e) ∙ dotted-parts s)
+    go (p ∷ q ∷ ps) e = absurd (omega (arith, ap length e))
 
 -- ---- without an ISIL
 

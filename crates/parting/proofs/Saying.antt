@@ -1,20 +1,20 @@
 -- What a part in the set's place says: its tests one by one, and its outcome by them.
 use mathlib.Core.Path.{_≡_, refl, sym, ap, ap₂, _∙_}
-use Prim.Native.Nat.{ℕ, _+_, _-_, _*_, _/_, _≤_, _<_}
+use Prim.Native.Nat.{ℕ, _+_, _-_, _/_, _≤_, _<_}
 use native.Mathlib.Omega.{arith}
 use native.Mathlib.Nat.{sub-zero}
 use mathlib.Core.Bool.{Bool, true, false, not}
 use mathlib.Core.List.{List, [], _∷_}
 use lib.ListN.{length, take, drop, length-take, length-drop, drop-of-length-le}
 use lib.Seq.{take-all}
-use borrow.Author.Tests.{leb-true, le-leb, eqb-true, eq-eqb}
 use Rattle.format.specs.Answers.{plain, got, refused, need, inOrder}
 use Rattle.format.specs.Bytes.{all, same}
 use Rattle.format.proofs.Answers.{next-ok, next-no, none-ok}
 use Rattle.format.proofs.Strings.{rest-opened}
-use Rattle.format.proofs.Tests.{never, and-i, and-iff, or-l, same-truth, all-take, all-drop}
-use Rattle.identifier.specs.SetDigits.{digit, numberIn, width, totalIn, ordinalIn, saysSet}
+use Rattle.format.proofs.Tests.{never, or-l, same-truth, all-take, all-drop}
+use Rattle.identifier.specs.SetDigits.{digit, numberIn, totalIn, ordinalIn, saysSet}
 use Rattle.identifier.specs.Elements.{pointing, goodSet}
+use Rattle.identifier.proofs.Sets.{Says, says-of, of-says}
 use Rattle.parting.specs.Places.{placeIn}
 use Rattle.parting.specs.Sets.{SetNumbers, readIn, numbersIn, standsIn}
 
@@ -23,33 +23,10 @@ numbers t o = record { total = t; ordinal = o }
 
 -- ---- digits
 
--- the tests that a part of digits passes
-pub record Says (p : List ℕ) : Type 0 where
-  pub digits : all digit p ≡ true
-  pub some : 1 ≤ totalIn p
-  pub most : totalIn p ≤ 255
-  pub long : length p ≡ 2 * width (totalIn p)
-  pub ordered : ordinalIn p ≤ totalIn p
-
-says-of : (p : List ℕ) → saysSet p ≡ true → Says p
-unfolding saysSet
-says-of p e =
-    let h = simp and-iff at e in
-    record {
-      digits = h .0 .0 .0;
-      some = leb-true 1 (totalIn p) (h .0 .0 .1 .0);
-      most = leb-true (totalIn p) 255 (h .0 .0 .1 .1);
-      long = eqb-true (length p) (2 * width (totalIn p)) (h .0 .1);
-      ordered = leb-true (ordinalIn p) (totalIn p) (h .1);
-    }
-
 pub read-said : (p : List ℕ) (t o : ℕ) → t ≡ totalIn p → o ≡ ordinalIn p → Says p → got (numbers t o) ≡ readIn p
-unfolding readIn saysSet
+unfolding readIn
 read-said p t o et eo s =
-    let e =
-    and-i (and-i (and-i (s .digits) (and-i (le-leb 1 (totalIn p) (s .some)) (le-leb (totalIn p) 255 (s .most)))) (eq-eqb (length p) (2 * width (totalIn p)) (s .long)))
-    (le-leb (ordinalIn p) (totalIn p) (s .ordered)) in
-    ap₂ (λ (x y : ℕ). got (numbers x y)) et eo ∙ sym (next-ok 6 (saysSet p) [] (numbers (totalIn p) (ordinalIn p)) e ∙ none-ok _)
+    ap₂ (λ (x y : ℕ). got (numbers x y)) et eo ∙ sym (next-ok 6 (saysSet p) [] (numbers (totalIn p) (ordinalIn p)) (of-says p s) ∙ none-ok _)
 
 pub read-bad : (p : List ℕ) → (Says p → ⊥) → refused (plain 6) ≡ readIn p
 unfolding readIn

@@ -1,24 +1,23 @@
 -- What taking apart comes to, by what each stage of the code found.
 use mathlib.Core.Path.{_≡_, refl, sym, ap, ap₂, _∙_}
-use Prim.Native.Nat.{ℕ, _≤_, _<_}
-use mathlib.Core.Bool.{Bool, true, false, not, _&&_, _||_}
+use Prim.Native.Nat.{ℕ}
+use mathlib.Core.Bool.{Bool, true, not, _&&_, _||_}
 use mathlib.Core.List.{List, [], _∷_}
 use lib.ListN.{length, drop}
-use lib.Dec.{leb}
-use borrow.Author.Tests.{le-leb, lt-leb}
 use Rattle.format.specs.Answers.{Answer, plain, got, refused, Step, need, inOrder}
-use Rattle.format.specs.Bytes.{upTo, le16, filled}
+use Rattle.format.specs.Bytes.{upTo, le16}
 use Rattle.format.specs.Elements.{setBytes, form}
 use Rattle.format.specs.Numbers.{numberOf}
 use Rattle.format.specs.Pieces.{stored}
 use Rattle.format.proofs.Answers.{need-inv, need-refused, next-ok, next-no, none-ok, first-no, refused-on, passed-on, worked}
 use Rattle.format.proofs.Pieces.{stored-front}
-use Rattle.format.proofs.Tests.{and-i, and-left, and-no}
+use Rattle.format.proofs.Tests.{and-left}
 use Rattle.identifier.specs.declared.PartedAnswer.the-variants.{Done, Refused}
 use Rattle.identifier.specs.Parts.{dot, parts}
 use Rattle.identifier.specs.Elements.{Elements, three, rightCount, isilPart, itemPart, setPlace, pointing, goodSet, goodParts, setOf, elementsOf}
-use Rattle.identifier.specs.Calls.{Lengths, lengths, roomFor, partSteps, parting, FillsThree}
-use Rattle.identifier.proofs.Outcomes.{three-refused, three-done}
+use Rattle.identifier.specs.Calls.{Lengths, lengths, roomFor, partSteps, filledAll, parting, FillsThree}
+use Rattle.identifier.proofs.Outcomes.{room-for, short-for, three-refused, three-done}
+use Rattle.identifier.specs.Demands.{Room, Short}
 use Rattle.parting.specs.Places.{isilIn, restIn, placeIn}
 use Rattle.parting.specs.Sets.{SetNumbers, numbersIn, standsIn}
 use Rattle.parting.proofs.Finding.{isil-found, item-found, set-found}
@@ -29,11 +28,6 @@ number-given a e h = e ∙ ap (λ j. refused (plain j)) (sym (h ∙ ap numberOf 
 
 three-same : {A : Type 0} {a b c a′ b′ c′ : A} → a ≡ a′ → b ≡ b′ → c ≡ c′ → three a b c ≡ three a′ b′ c′
 three-same p q r = rw (p, q, r) refl
-
-set-length : (ps : List (List ℕ)) → length (setOf ps) ≡ 4
-unfolding setOf le16
-set-length [] = refl
-set-length (p ∷ ps) = refl
 
 set-numbers : (ps : List (List ℕ)) → setBytes (numbersIn ps .total) (numbersIn ps .ordinal) ≡ setOf ps
 unfolding setOf numbersIn
@@ -121,40 +115,28 @@ module _ (leads : Bool) (s : List ℕ) (buffers : Elements) where
             let e : numbersIn (setPlace leads (parts s)) ≡ n = worked _ (numbersIn (setPlace leads (parts s))) n (sym (ap standsIn place-is) ∙ said) .1 in
             ap (λ (m : SetNumbers). setBytes (m .total) (m .ordinal)) (sym e) ∙ set-numbers (setPlace leads (parts s))
 
-        room-is : roomFor (lengths buffers) out ≡ leb (length name) (length (buffers .item)) && leb (length owner) (length (buffers .isil)) && leb 4 (length (buffers .set))
-        unfolding roomFor
-        room-is = rw (name-is, owner-is, set-length (setPlace leads (parts s))) refl
+        -- what code has found are the elements
+        abbrev its : Elements
+        its = three name owner (setBytes (n .total) (n .ordinal))
+
+        out-is : out ≡ its
+        out-is = three-same (sym name-is) (sym owner-is) (sym set-is)
 
         -- ---- 2
 
-        no-room : leb (length name) (length (buffers .item)) && leb (length owner) (length (buffers .isil)) && leb 4 (length (buffers .set)) ≡ false
-            → FillsThree (parting leads s buffers) (Refused 2) buffers
-        no-room e = three-refused leads s buffers (behind-set ∙ next-no 2 _ [] (lengths out) (room-is ∙ e))
-
-        pub no-room-item : length (buffers .item) < length name → FillsThree (parting leads s buffers) (Refused 2) buffers
-        no-room-item h = no-room (and-left _ _ (and-left _ _ (lt-leb (length name) (length (buffers .item)) h)))
-
-        pub no-room-isil : length (buffers .isil) < length owner → FillsThree (parting leads s buffers) (Refused 2) buffers
-        no-room-isil h = no-room (and-left _ _ (and-no (leb (length name) (length (buffers .item))) _ (lt-leb (length owner) (length (buffers .isil)) h)))
-
-        pub no-room-set : length (buffers .set) < 4 → FillsThree (parting leads s buffers) (Refused 2) buffers
-        no-room-set h = no-room (and-no (leb (length name) (length (buffers .item)) && leb (length owner) (length (buffers .isil))) _ (lt-leb 4 (length (buffers .set)) h))
+        pub no-room : Short its buffers → FillsThree (parting leads s buffers) (Refused 2) buffers
+        no-room h = three-refused leads s buffers (behind-set ∙ next-no 2 _ [] (lengths out) (ap (roomFor (lengths buffers)) out-is ∙ short-for h))
 
         -- ---- done
 
-        pub taken : {p q : ℕ} (item isil set : List ℕ)
-            → length name ≤ length (buffers .item)
-            → length owner ≤ length (buffers .isil)
-            → 4 ≤ length (buffers .set)
+        pub taken : {p q : ℕ} (item isil set : List ℕ) → Room its buffers
             → stored (buffers .item) 0 name p item
             → stored (buffers .isil) 0 owner q isil
             → stored (buffers .set) 0 (setBytes (n .total) (n .ordinal)) 4 set
             → FillsThree (parting leads s buffers) (Done (length name) (length owner) 4) (three item isil set)
-        taken item isil set hi ho hs si so ss =
-            let room = and-i (and-i (le-leb _ _ hi) (le-leb _ _ ho)) (le-leb 4 _ hs) in
-            let long : lengths out ≡ three (length name) (length owner) 4 =
-            three-same (ap length (sym name-is)) (ap length (sym owner-is)) (set-length (setPlace leads (parts s))) in
-            three-done leads s buffers (three item isil set) (behind-set ∙ next-ok 2 _ [] (lengths out) (room-is ∙ room) ∙ none-ok _ ∙ ap got long)
-            (three-same (stored-front _ item name _ si .1 ∙ ap (λ (e : List ℕ). filled e (buffers .item)) name-is)
-            (stored-front _ isil owner _ so .1 ∙ ap (λ (e : List ℕ). filled e (buffers .isil)) owner-is)
-            (stored-front (buffers .set) set (setBytes (n .total) (n .ordinal)) 4 ss .1 ∙ ap (λ (e : List ℕ). filled e (buffers .set)) set-is))
+        unfolding le16
+        taken item isil set room si so ss =
+            let done = behind-set ∙ next-ok 2 _ [] (lengths out) (ap (roomFor (lengths buffers)) out-is ∙ room-for its buffers room) ∙ none-ok _ in
+            three-done leads s buffers (three item isil set) (done ∙ ap (λ (e : Elements). got (lengths e)) out-is)
+            (three-same (stored-front _ item name _ si .1) (stored-front _ isil owner _ so .1) (stored-front (buffers .set) set (setBytes (n .total) (n .ordinal)) 4 ss .1)
+            ∙ ap (λ (e : Elements). filledAll e buffers) (sym out-is))

@@ -1,4 +1,4 @@
--- Where code finds the parts of an identifier. No rule of document 02 stands here; proofs/Finding.antt says that these are the parts.
+-- Where code finds the parts of an identifier. No rule of document 02 stands here; proofs/Finding.antt and Cutting.antt say that these are the parts.
 use mathlib.Core.Path.{_≡_}
 use Prim.Native.Nat.{ℕ, _+_, _≤_}
 use mathlib.Core.Bool.{Bool, _&&_}

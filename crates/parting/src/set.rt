@@ -1,14 +1,14 @@
 // Set information in digits.
 ghost use mathlib.Core.Path.{_≡_};
 ghost use mathlib.Core.Bool.{true};
-ghost use mathlib.Core.List.{[], _∷_};
 ghost use Prim.Native.Nat.{_≤_};
 ghost use lib.ListN.{length, drop};
-ghost use Rattle.format.specs.Bytes.{all, same};
+ghost use Rattle.format.specs.Bytes.{all};
 ghost use Rattle.format.specs.Elements.{setBytes};
 ghost use Rattle.format.specs.Numbers.{numberOf};
 ghost use Rattle.format.specs.Pieces.{stored};
 ghost use Rattle.identifier.specs.SetDigits.{digit, numberIn};
+ghost use Rattle.identifier.specs.Elements.{isS};
 ghost use Rattle.parting.specs.Places.{placeIn};
 ghost use Rattle.parting.specs.Sets.{setGiven, readIn, standsIn};
 
@@ -92,7 +92,7 @@ fn read_set(part: &[u8]) -> SetAnswer
 
 // Is the part S?
 fn is_s(part: &[u8]) -> bool
-    ensures { λ r. ⌜ r ≡ same (now (part .entry)) (0x53 ∷ []) ⌝ }
+    ensures { λ r. ⌜ r ≡ isS (now (part .entry)) ⌝ }
 {
     if part.len() != 1 {
         return false;
@@ -100,17 +100,17 @@ fn is_s(part: &[u8]) -> bool
     part[0] == b'S'
 }
 
-// What stands in the set's place, behind the identifier's `len` bytes; nothing is 0 and 0.
-pub fn set_behind(rest: &[u8], len: usize) -> SetAnswer
-    ensures { λ r. ⌜ setGiven r ≡ standsIn (placeIn (drop len (now (rest .entry)))) ⌝ }
+// What stands in the set's place of a text whose identifier ends at `end`; nothing is 0 and 0.
+pub fn set_behind(text: &[u8], end: usize) -> SetAnswer
+    ensures { λ r. ⌜ setGiven r ≡ standsIn (placeIn (drop end (now (text .entry)))) ⌝ }
 {
-    if rest.len() <= len {
+    if text.len() <= end {
         return SetAnswer::Said {
             total: 0,
             ordinal: 0,
         };
     }
-    let part = &rest[len + 1..];
+    let part = &text[end + 1..];
     if is_s(part) {
         return SetAnswer::Refused(23);
     }

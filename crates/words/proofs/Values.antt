@@ -9,8 +9,9 @@ use mathlib.Core.Bool.{Bool, true, false, _&&_, _||_}
 use lib.Dec.{leb, ltb, eqb}
 use borrow.Author.Tests.{eqb-true, eqb-false, ne-eqb, leb-true, leb-false, ltb-true}
 use Rattle.format.proofs.Tests.{never, and-l, and-r, or-inv}
+use Rattle.format.proofs.Text.{between-over}
 use Rattle.words.specs.Code40.{valueOf, characterOf, outside, is646}
-use Rattle.words.proofs.Cases.{decide, over}
+use Rattle.words.proofs.Cases.{decide}
 
 -- every number below n passes the test f
 unfoldable pub below : (ℕ → Bool) → ℕ → Bool
@@ -53,7 +54,7 @@ right-values = refl
 high-value : (c : ℕ) → 0x7F < c → valueOf c ≡ 0
 unfolding valueOf
 high-value c h =
-    rw (over 0x41 0x5A c (omega arith), ne-eqb c 0x2D (λ e. omega arith), ne-eqb c 0x2E (λ e. omega arith), ne-eqb c 0x3A (λ e. omega arith), over 0x30 0x39 c (omega arith))
+    rw (between-over 0x41 0x5A c (omega arith), ne-eqb c 0x2D (λ e. omega arith), ne-eqb c 0x2E (λ e. omega arith), ne-eqb c 0x3A (λ e. omega arith), between-over 0x30 0x39 c (omega arith))
 
 pub one-of-39-low : (c : ℕ) → outside c ≡ false → is646 c ≡ true
 one-of-39-low c o = decide (is646 c) (λ e. e) (λ e. absurd (eqb-false (valueOf c) 0 o (high-value c (leb-false c 0x7F e))))

@@ -10,8 +10,9 @@ use lib.Dec.{leb, eqb}
 use borrow.Author.Tests.{eqb-true, eq-eqb, ne-eqb, leb-true, leb-false}
 use Rattle.format.specs.Bytes.{if_then_else_, isEmpty, all, trim, strip}
 use Rattle.format.proofs.Tests.{never}
+use Rattle.format.proofs.Text.{between-i, between-over, between-under}
 use Rattle.words.specs.Code40.{characterOf, wordOf, holding, charactersAt, unpadded, charactersOf, meaningful, textOf}
-use Rattle.words.proofs.Cases.{decide, within, under, over}
+use Rattle.words.proofs.Cases.{decide}
 
 -- ---- the characters of three values
 
@@ -55,25 +56,25 @@ module _ (a b c : ℕ) where
 
 pub characters-of-three : (w : ℕ) → 0x0001 ≤ w → w ≤ 0xFA00 → charactersOf w ≡ unpadded ((w - 1) / 1600 ∷ (w - 1) / 40 % 40 ∷ (w - 1) % 40 ∷ [])
 unfolding charactersOf
-characters-of-three w l m = rw (within 0x0001 0xFA00 w l m)
+characters-of-three w l m = rw (between-i {low = 0x0001} {high = 0xFA00} {b = w} l m)
 
 pub characters-of-one : (w : ℕ) → 0xFC00 ≤ w → w ≤ 0xFC7F → charactersOf w ≡ (w - 0xFC00) ∷ []
 unfolding charactersOf
-characters-of-one w l m = rw (over 0x0001 0xFA00 w (omega arith), within 0xFC00 0xFC7F w l m)
+characters-of-one w l m = rw (between-over 0x0001 0xFA00 w (omega arith), between-i {low = 0xFC00} {high = 0xFC7F} {b = w} l m)
 
 -- a word with no meaning: 0, from FA01 to FBFF, above FC7F
 module _ (w : ℕ) where
   pub none-at-zero : w ≡ 0 → charactersOf w ≡ []
   unfolding charactersOf
-  none-at-zero e = rw (under 0x0001 0xFA00 w (omega arith), under 0xFC00 0xFC7F w (omega arith))
+  none-at-zero e = rw (between-under 0x0001 0xFA00 w (omega arith), between-under 0xFC00 0xFC7F w (omega arith))
 
   pub none-between : 0xFA00 < w → w < 0xFC00 → charactersOf w ≡ []
   unfolding charactersOf
-  none-between l m = rw (over 0x0001 0xFA00 w l, under 0xFC00 0xFC7F w m)
+  none-between l m = rw (between-over 0x0001 0xFA00 w l, between-under 0xFC00 0xFC7F w m)
 
   pub none-above : 0xFC7F < w → charactersOf w ≡ []
   unfolding charactersOf
-  none-above l = rw (over 0x0001 0xFA00 w (omega arith), over 0xFC00 0xFC7F w l)
+  none-above l = rw (between-over 0x0001 0xFA00 w (omega arith), between-over 0xFC00 0xFC7F w l)
 
 -- the characters of a word that three values make
 pub word-back : (a b c : ℕ) → a < 40 → b < 40 → c < 40 → charactersOf (wordOf a b c) ≡ unpadded (a ∷ b ∷ c ∷ [])

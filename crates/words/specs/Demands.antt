@@ -20,8 +20,8 @@ abbrev pub Done : Outcome → List ℕ → List ℕ → Type 0
 Done o out buffer = (o .answer ≡ got (length out)) × (o .buffer ≡ filled out buffer)
 
 -- a refusal changes no byte of the buffer
-abbrev pub LeavesAlone : Converter → Type 0
-LeavesAlone f = (input buffer : List ℕ) (x : Refusal) → f input buffer .answer ≡ refused x → f input buffer .buffer ≡ buffer
+abbrev pub LeavesAlone : {A : Type 0} → (A → List ℕ → Outcome) → Type 0
+LeavesAlone {A} f = (input : A) (buffer : List ℕ) (x : Refusal) → f input buffer .answer ≡ refused x → f input buffer .buffer ≡ buffer
 
 -- Words to text: what the words say goes out, where there is room for it. 20 exactly where a word has no meaning; 2 exactly where all have,
 -- and the room is too short for what they say.

@@ -5,7 +5,7 @@ use native.Mathlib.Omega.{arith}
 use lib.ListN.{length}
 use Rattle.identifier.proofs.Sets.{width-few}
 use Rattle.joining.specs.Laying.{setEnd}
-use Rattle.joining.proofs.Pieces.{width-some, no-set, set-end-length}
+use Rattle.joining.proofs.Pieces.{no-set, set-end-length}
 use borrow.Author.Needs.{needs}
 use Rattle.joining.proofs.set_length.Statement.{statement}
 use Rattle.joining.proofs.set_length.Tie as tie
@@ -24,7 +24,7 @@ returns-3 : tie.Need-returns-3
 returns-3 c = (omega (arith, long (c .before), c .match .keys2), omega arith)
 
 returns-4 : tie.Need-returns-4
-returns-4 c = (omega (arith, long (c .before), c .before .width .ensures, width-few (c .before .before .before .args .total), width-some (c .before .before .before .args .total), c .match .rest), omega arith)
+returns-4 c = (omega (arith, long (c .before), c .before .width .ensures, width-few (c .before .before .before .args .total), c .match .rest), omega arith)
 
 pub set-length-spec : {M : Type 1} → statement M
 set-length-spec = tie.close (tie.spec returns (λ c κs. search needs) returns-2 returns-3 returns-4)

@@ -9,13 +9,15 @@ use borrow.Author.Needs.{needs}
 use borrow.Author.Tests.{ltb-true, ltb-false}
 use lib.ListN.{length, take, drop}
 use Rattle.format.specs.Answers.{got, need}
+use Rattle.format.specs.Bytes.{le16}
 use Rattle.format.specs.Elements.{form}
 use Rattle.format.specs.Numbers.{stageGiven}
+use Rattle.identifier.specs.Demands.{item, isil, set}
 use Rattle.parting.specs.declared.places.Cut.{Cut}
 use Rattle.parting.specs.Places.{restIn, placeIn, cutGiven}
 use Rattle.parting.specs.Sets.{setGiven, standsIn}
 use Rattle.parting.proofs.Cutting.{Standing, cut-stands, cut-refused}
-use Rattle.parting.proofs.Taking.{number-given, Found, count-refused, names-refused, set-refused, no-room-item, no-room-isil, no-room-set, taken}
+use Rattle.parting.proofs.Taking.{number-given, Found, count-refused, names-refused, set-refused, no-room, taken}
 use Rattle.parting.proofs.take_apart.Statement.{statement}
 use Rattle.parting.proofs.take_apart.Tie as tie
 
@@ -100,15 +102,17 @@ returns-3 c =
     set-refused _ _ _ (found u) (named k) (sym (ap (λ (l : List ℕ). standsIn (placeIn l)) (same-place (u .before))) ∙ sym (r .ensures) ∙ e)
 
 returns-4 : tie.Need-returns-4
+unfolding le16
 returns-4 c =
     let t = c .before in
     let k = past-names t in
     let u = past-cut k in
     let a = at-start (u .before) .args in
     let f = found u in
-    ⊎-elim (λ w. no-room-item _ _ _ f (named k) (said t) (w .taken))
-    (⊎-elim (λ w. no-room-isil _ _ _ f (named k) (said t) (ltb-true (length (a .isil .now)) (length (u .isil-before .result .now)) (w .1 .taken)))
-    (λ w. no-room-set _ _ _ f (named k) (said t) (ltb-true (length (a .set .now)) 4 (w .2 .taken)))) (c .if1 .came)
+    no-room _ _ _ f (named k) (said t)
+    (⊎-elim (λ w. item (w .taken))
+    (⊎-elim (λ w. isil (ltb-true (length (a .isil .now)) (length (u .isil-before .result .now)) (w .1 .taken)))
+    (λ w. set (ltb-true (length (a .set .now)) 4 (w .2 .taken)))) (c .if1 .came))
 
 put-bytes-requires-2 : tie.Need-put-bytes-requires-2
 put-bytes-requires-2 c κs =
@@ -117,15 +121,19 @@ put-bytes-requires-2 c κs =
     rw zero-add (ltb-false (length (at-start (u .before) .args .isil .now)) (length (u .isil-before .result .now)) (l .if2 .left))
 
 returns-5 : tie.Need-returns-5
+unfolding le16
 returns-5 c =
     let p = c .before .before .before .before .before .before .before .before .before .before in
     let t = p .before .before .before .before .before in
     let k = past-names t in
     let u = past-cut k in
     let a = at-start (u .before) .args in
-    taken _ _ _ (found u) (named k) (said t) _ _ _ (p .before .before .before .before .if1 .left)
-    (ltb-false (length (a .isil .now)) (length (u .isil-before .result .now)) (p .before .before .before .if2 .left))
-    (ltb-false (length (a .set .now)) 4 (p .before .before .if3 .left))
+    taken _ _ _ (found u) (named k) (said t) _ _ _
+    (record {
+      item = p .before .before .before .before .if1 .left;
+      isil = ltb-false (length (a .isil .now)) (length (u .isil-before .result .now)) (p .before .before .before .if2 .left);
+      set = ltb-false (length (a .set .now)) 4 (p .before .before .if3 .left);
+    })
     (p .put-bytes .ensures) (c .before .before .before .before .before .before .put-bytes2 .ensures) (c .before .before .put-set .ensures)
 
 pub take-apart-spec : {M : Type 1} → statement M

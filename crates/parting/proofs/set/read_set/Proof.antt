@@ -9,8 +9,8 @@ use borrow.Author.Tests.{not-true, not-false}
 use Rattle.format.specs.Bytes.{all}
 use Rattle.format.proofs.Tests.{never}
 use Rattle.identifier.specs.SetDigits.{digit, width, totalIn, ordinalIn}
-use Rattle.identifier.proofs.Sets.{width-few}
-use Rattle.parting.proofs.Saying.{Says, read-said, read-bad, total-read, ordinal-read, front-digits, back-digits}
+use Rattle.identifier.proofs.Sets.{width-few, Says}
+use Rattle.parting.proofs.Saying.{read-said, read-bad, total-read, ordinal-read, front-digits, back-digits}
 use Rattle.parting.proofs.set.read_set.Statement.{statement}
 use Rattle.parting.proofs.set.read_set.Tie as tie
 
