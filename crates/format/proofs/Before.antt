@@ -13,7 +13,7 @@ use Rattle.format.specs.Bytes.{if_then_else_, isEmpty, all, same, le16, 
 use Rattle.format.specs.Pages.{count, changed}
 use Rattle.format.specs.Text.{rows, after, rowsFrom, text}
 use Rattle.format.specs.Fields.{isilOf, isil, alternate, alternative, isOwner, marked, goodItem, prefixIn, goodOwner}
-use Rattle.format.specs.Chain.{named, summed, damageSteps, walk, chain, Library, libraryBlock, payload, lastField, libraryIn, goodLibrary, sealed}
+use Rattle.format.specs.Chain.{named, summed, damageSteps, walk, chain, Library, libraryBlock, payload, fieldsIn, beyond, lastField, libraryIn, goodLibrary, sealed}
 use Rattle.format.specs.Elements.{numbers, required, setInfo, shape, form, known, value, el, put}
 use Rattle.format.specs.Sheet.{Entry, entriesIn, find, present, goodValues}
 use Rattle.format.specs.Layout.{image}
@@ -117,7 +117,7 @@ module _ (f g : List ℕ → Bool) (w : (s : List ℕ) → f s ≡ true → g s 
   unfolding goodLibraryBy
   library-wider b =
       let l : Library = libraryIn b in
-      and-wider (and-wider (kept (leb (length (lastField (payload b))) 1)) (w (l .item))) (or-wider (kept (isEmpty (l .owner))) (is-owner-wider (l .owner)))
+      and-wider (and-wider (kept (leb (length (lastField b)) 1)) (w (l .item))) (or-wider (kept (isEmpty (l .owner))) (is-owner-wider (l .owner)))
 
   fields-wider : (t : List ℕ) → goodFieldsBy f t ≡ true → goodFieldsBy g t ≡ true
   unfolding goodFieldsBy
@@ -216,7 +216,7 @@ places rule =
 
 -- it was refused in each, and passes in each
 pub places-opened : (all not (places textBefore) ≡ true) × (all (λ b. b) (places text) ≡ true)
-unfolding all textBefore text rowsFrom rows after goodFieldsBy goodOwnerBy goodLibraryBy isOwnerBy alternativeBy goodValuesBy valueBy formBy shapeBy shape isilOf isil prefixIn upTo past strip trim same payload lastField libraryIn libraryBlock sealed le16 word xorAll chain walk damageSteps named summed needAt inOrder andThen orElse numbers setInfo find
+unfolding all textBefore text rowsFrom rows after goodFieldsBy goodOwnerBy goodLibraryBy isOwnerBy alternativeBy goodValuesBy valueBy formBy shapeBy shape isilOf isil prefixIn upTo past strip trim same payload fieldsIn beyond libraryIn libraryBlock sealed le16 word xorAll chain walk damageSteps named summed needAt inOrder andThen orElse numbers setInfo find
 places-opened = (refl, refl)
 
 -- a byte alone is text where it was

@@ -10,13 +10,14 @@ use lib.ListN.{length, drop, getD, replicate, length-append, List·getD-append}
 use lib.Seq.{take-at, drop-at}
 use borrow.Author.Tests.{eqb-true, eqb-false, eq-eqb, ne-eqb, leb-true, le-leb}
 use Rattle.format.specs.Answers.{got, andThen}
-use Rattle.format.specs.Bytes.{if_then_else_, isEmpty, all, le16, word, xorAll, strip, past, joined, trim}
+use Rattle.format.specs.Bytes.{if_then_else_, isEmpty, all, le16, word, xorAll, trim, strip, joined}
 use Rattle.format.specs.Text.{text}
 use Rattle.format.specs.Fields.{isOwner}
-use Rattle.format.specs.Chain.{lengthOf, idOf, whole, named, summed, wellFormed, isLibrary, carriable, damageSteps, damageOf, walk, chain, libraryBlock, otherBlocks, Library, payload, lastField, libraryIn, goodLibrary, libraryBytes, sealed, blockOne}
+use Rattle.format.specs.Chain.{lengthOf, idOf, whole, named, summed, wellFormed, isLibrary, carriable, damageSteps, damageOf, walk, chain, libraryBlock, otherBlocks, payload, beyond, separated, sealed, blockWith, Library, lastField, libraryIn, goodLibrary, libraryBytes, blockOne}
 use Rattle.format.proofs.Tests.{and-l, and-r, and-i, not-t}
 use Rattle.format.proofs.Answers.{need-at-ok, need-at-inv, then-ok, first-ok, first-inv, none-ok}
-use Rattle.format.proofs.Strings.{word-le16, solid, up-to-before, past-before, strip-strip, head-strip, drop-strip, up-to-strip, past-strip}
+use Rattle.format.proofs.Strings.{word-le16, trim-head, trim-drop, trim-trim, suc-other, solid}
+use Rattle.format.proofs.Separated.{beyond-separated, fields-separated, separated-strip}
 use Rattle.format.proofs.Xor.{xor-closed}
 
 -- ---- a sealed block
@@ -144,61 +145,52 @@ walk-carried (suc f) p m seen (b ∷ bs) h l =
     (step f p seen b r (c .0) o
     ∙ rw (c .1) (then-ok (walk f (p + length b) seen r) (λ cs. got (b ∷ cs)) bs (walk-carried f (p + length b) m seen bs (and-r (carriable b) (all carriable bs) h) k)))
 
--- ---- block 1
+-- ---- what a block holds
 
-unstripped : (f : Library) → strip (libraryBytes f) ≡ libraryBytes f
-unfolding libraryBytes
-unstripped f = strip-strip (f .media ∷ (f .item ++ (0 ∷ (f .owner ++ (0 ∷ f .usage ∷ [])))))
+pub payload-back : (id : ℕ) (p : List ℕ) → strip p ≡ p → payload (blockWith id p) ≡ p
+unfolding payload blockWith sealed le16 strip
+payload-back id [] e = refl
+payload-back id (x ∷ p) e = e
 
-payload-back : (f : Library) → payload (blockOne f) ≡ libraryBytes f
-unfolding payload blockOne sealed le16 strip
-payload-back f = go (libraryBytes f) (unstripped f)
-  where
-    go : (p : List ℕ) → strip p ≡ p → strip (drop 4 (if isEmpty p then [] else sealed 1 p)) ≡ p
-    go [] e = refl
-    go (x ∷ p) e = e
+-- a byte 00 is no field
+byte-solid : (u : ℕ) → solid (trim u []) ≡ true
+unfolding all trim
+byte-solid zero = refl
+byte-solid (suc u) = rw (suc-other u)
 
-last-one : (u : ℕ) → leb (length (strip (u ∷ []))) 1 ≡ true
-unfolding strip trim
-last-one zero = refl
-last-one (suc u) = refl
+byte-back : (u : ℕ) → (getD (separated (trim u [] ∷ [])) 0 0 ≡ u) × (leb (length (separated (trim u [] ∷ []))) 1 ≡ true)
+unfolding separated trim
+byte-back zero = (refl, refl)
+byte-back (suc u) = (refl, refl)
 
 module _ (f : Library) (i : solid (f .item) ≡ true) (o : solid (f .owner) ≡ true) where
-  tail : List ℕ
-  tail = f .owner ++ (0 ∷ f .usage ∷ [])
+  fields : List (List ℕ)
+  fields = f .item ∷ f .owner ∷ trim (f .usage) [] ∷ []
 
-  rest : List ℕ
-  rest = f .item ++ (0 ∷ tail)
+  whole-fields : all solid fields ≡ true
+  unfolding fields all
+  whole-fields = and-i i (and-i o (and-i (byte-solid (f .usage)) refl))
 
-  -- what follows each separator
-  first-past : past 0 (drop 1 (libraryBytes f)) ≡ strip tail
-  unfolding libraryBytes rest tail
-  first-past = ap (past 0) (drop-strip (f .media) rest) ∙ past-strip rest ∙ ap strip (past-before 0 (f .item) tail i)
+  payload-is : payload (blockOne f) ≡ trim (f .media) (separated fields)
+  unfolding libraryBytes fields
+  payload-is = payload-back 1 (libraryBytes f) (trim-trim (f .media) (separated fields) (separated-strip fields whole-fields))
 
-  second-past : lastField (libraryBytes f) ≡ strip (f .usage ∷ [])
-  unfolding lastField tail
-  second-past = ap (past 0) first-past ∙ past-strip tail ∙ ap strip (past-before 0 (f .owner) (f .usage ∷ []) o)
+  behind-media : drop 1 (payload (blockOne f)) ≡ separated fields
+  behind-media = ap (drop 1) payload-is ∙ trim-drop (f .media) (separated fields)
+
+  last-back : lastField (blockOne f) ≡ separated (trim (f .usage) [] ∷ [])
+  unfolding fields
+  last-back = ap (beyond 2) behind-media ∙ beyond-separated 2 fields whole-fields
 
   -- the fields of block 1 come back
   pub library-back : libraryIn (blockOne f) ≡ f
-  unfolding libraryIn libraryBytes rest tail
+  unfolding libraryIn fields
   library-back =
-      rw (
-        payload-back f,
-        second-past,
-        first-past,
-        head-strip (f .media) rest,
-        drop-strip (f .media) rest,
-        up-to-strip rest,
-        up-to-strip tail,
-        up-to-before 0 (f .item) tail i,
-        up-to-before 0 (f .owner) (f .usage ∷ []) o,
-        head-strip (f .usage) [],
-      )
+      rw (last-back, behind-media, payload-is, fields-separated 2 fields whole-fields (omega arith), trim-head (f .media) (separated fields), byte-back (f .usage) .0)
 
   pub library-good : text (f .item) ≡ true → isEmpty (f .owner) || isOwner (f .owner) ≡ true → goodLibrary (blockOne f) ≡ true
   unfolding goodLibrary
-  library-good t w = rw library-back (rw (payload-back f, second-past) (and-i (and-i (last-one (f .usage)) t) w))
+  library-good t w = rw (library-back, last-back) (and-i (and-i (byte-back (f .usage) .1) t) w)
 
 no-library : (cs : List (List ℕ)) → all carriable cs ≡ true → (libraryBlock cs ≡ []) × (otherBlocks cs ≡ cs)
 unfolding all libraryBlock otherBlocks
@@ -216,7 +208,7 @@ pub record Laid (p : ℕ) (one : List ℕ) (cs : List (List ℕ)) (m : ℕ) : Ty
   pub others : otherBlocks bs ≡ cs
 
 pub chain-laid : (p : ℕ) (f : Library) (cs : List (List ℕ)) (m : ℕ) → all carriable cs ≡ true → Laid p (blockOne f) cs m
-unfolding blockOne chain libraryBlock otherBlocks sealed le16 word
+unfolding blockWith chain libraryBlock otherBlocks sealed le16 word
 chain-laid p f cs m h = go (libraryBytes f)
   where
     go : (q : List ℕ) → Laid p (if isEmpty q then [] else sealed 1 q) cs m

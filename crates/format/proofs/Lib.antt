@@ -3,6 +3,7 @@ pub mod Passing
 pub mod Answers
 pub mod Given
 pub mod Strings
+pub mod Separated
 pub mod Pieces
 pub mod Xor
 pub mod Crc

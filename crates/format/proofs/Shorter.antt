@@ -1,6 +1,6 @@
 -- The layout of what a readable tag holds exists on that tag: no block of it is longer than what was read.
 use mathlib.Core.Path.{_≡_, refl, sym, ap, ap₂, _∙_}
-use mathlib.Core.Logic.{_⊎_, inl, inr}
+use mathlib.Core.Logic.{_⊎_, inl, inr, ⊎-elim}
 use Prim.Native.Nat.{ℕ, zero, suc, _+_, _-_, _*_, _%_, _≤_}
 use native.Mathlib.Nat.{le-refl}
 use native.Mathlib.Omega.{arith}
@@ -12,81 +12,37 @@ use borrow.Author.Tests.{eqb-true, le-leb, lt-leb}
 use Rattle.format.specs.Bytes.{if_then_else_, isEmpty, bytes, same, part, padWith, strip, trim, upTo, past, joined}
 use Rattle.format.specs.Pages.{goodSize}
 use Rattle.format.specs.Fields.{isilOf, hyphen, blank, alternate, alternative, marked, prefixIn, ownerSaid, goodOwner, long, packed, basicOwner}
-use Rattle.format.specs.Chain.{isLibrary, libraryBlock, otherBlocks, Library, payload, lastField, libraryIn, libraryBytes, sealed, blockOne}
+use Rattle.format.specs.Chain.{isLibrary, libraryBlock, otherBlocks, Library, payload, fieldsIn, beyond, separated, blockWith, lastField, libraryIn, libraryBytes, blockOne}
 use Rattle.format.specs.Elements.{Content, numbers, placeIn, place}
 use Rattle.format.specs.Layout.{ownerWidth, ownerOf, library, basic, laidOut, fits, hasLayout}
 use Rattle.format.specs.Reading.{mainUsage, itemIn, ownerIn, blocksIn, libraryOn, ownerOn, contentIn, Readable}
 use Rattle.format.proofs.Tests.{never, beq-false, and-i, or-r}
-use Rattle.format.proofs.Strings.{some-behind, part-length, strip-length, strip-strip, length-pad, up-to-before, past-before}
+use Rattle.format.proofs.Strings.{some-behind, part-length, strip-length, trim-drop, strip-strip, length-pad, up-to-before, past-before}
+use Rattle.format.proofs.Separated.{beyond-strip, rebuilt, none, next, trim-mono, fewer-shorter}
 use Rattle.format.proofs.Fields.{isil-facts, isil-first, alternative-facts, said-cases}
 use Rattle.format.proofs.Blocks.{sealed-length}
 use Rattle.format.proofs.Chains.{walked-from, chain-total}
 use Rattle.format.proofs.Layouts.{basic-length, size-cases}
 use Rattle.format.proofs.Sound.{capitals-unhyphened, isil-made, prefix-length, fields-parts, agree-owner, library-tests, library-short, blocks-handed}
 
--- ---- how much of a string is left when it is stripped
-
-abbrev left : List ℕ → ℕ
-left s = length (strip s)
-
-trim-mono : (x : ℕ) (a b : List ℕ) → length a ≤ length b → length (trim x a) ≤ length (trim x b)
-unfolding trim
-trim-mono zero [] b h = omega arith
-trim-mono zero (y ∷ a) [] h = absurd (omega arith)
-trim-mono zero (y ∷ a) (z ∷ b) h = omega arith
-trim-mono (suc x) a b h = omega arith
-
-trim-more : (x : ℕ) (a : List ℕ) → length a ≤ length (trim x a)
-unfolding trim
-trim-more zero [] = omega arith
-trim-more zero (y ∷ a) = omega arith
-trim-more (suc x) a = omega arith
-
-left-cons : (x : ℕ) (a b : List ℕ) → left a ≤ left b → left (x ∷ a) ≤ left (x ∷ b)
-unfolding strip
-left-cons x a b h = trim-mono x (strip a) (strip b) h
-
-left-more : (i a : List ℕ) → left a ≤ left (i ++ a)
-unfolding strip
-left-more [] a = le-refl _
-left-more (x ∷ i) a = omega (arith, left-more i a, trim-more x (strip (i ++ a)))
-
-left-append : (i a b : List ℕ) → left a ≤ left b → left (i ++ a) ≤ left (i ++ b)
-left-append [] a b h = h
-left-append (x ∷ i) a b h = left-cons x (i ++ a) (i ++ b) (left-append i a b h)
-
--- with i or without it
-left-less : (j i a b : List ℕ) → (j ≡ i) ⊎ (j ≡ []) → left a ≤ left b → left (j ++ a) ≤ left (i ++ b)
-left-less j i a b (inl e) h = rw e (left-append i a b h)
-left-less j i a b (inr e) h = rw e (omega (arith, h, left-more i b))
-
 -- ---- block 1 put together again from its fields
 
--- up to the separator, and behind it what strips alike
-strip-parted : (r x : List ℕ) → strip x ≡ strip (past 0 r) → strip (upTo 0 r ++ 0 ∷ x) ≡ strip r
-unfolding strip upTo past trim
-strip-parted [] x e = ap (trim 0) e
-strip-parted (y ∷ r) x e = go (eqb y 0) refl (strip-parted r x) e
-  where
-    go : (t : Bool) → eqb y 0 ≡ t → (strip x ≡ strip (past 0 r) → strip (upTo 0 r ++ 0 ∷ x) ≡ strip r) → strip x ≡ strip (if t then r else past 0 r)
-        → strip ((if t then [] else y ∷ upTo 0 r) ++ 0 ∷ x) ≡ trim y (strip r)
-    go true q ih e = ap₂ trim (sym (eqb-true y 0 q)) e
-    go false q ih e = ap (trim y) (ih e)
-
-last-strip : (u : List ℕ) → length u ≤ 1 → strip (getD u 0 0 ∷ []) ≡ strip u
+last-byte : (u : List ℕ) → length u ≤ 1 → strip u ≡ u → trim (getD u 0 0) [] ≡ u
 unfolding strip trim
-last-strip [] h = refl
-last-strip (x ∷ []) h = refl
-last-strip (x ∷ y ∷ u) h = absurd (omega arith)
+last-byte [] h e = refl
+last-byte (x ∷ []) h e = e
+last-byte (x ∷ y ∷ u) h e = absurd (omega arith)
 
-pub library-rebuilt : (b : List ℕ) → length (lastField (payload b)) ≤ 1 → libraryBytes (libraryIn b) ≡ payload b
-unfolding libraryBytes libraryIn lastField payload strip trim upTo past
-library-rebuilt b h = go (payload b) (strip-strip (drop 4 b)) h
+pub library-rebuilt : (b : List ℕ) → length (lastField b) ≤ 1 → libraryBytes (libraryIn b) ≡ payload b
+unfolding libraryBytes libraryIn payload fieldsIn beyond separated upTo past strip trim
+library-rebuilt b h = go (strip (drop 4 b)) (strip-strip (drop 4 b)) h
   where
-    go : (p : List ℕ) → strip p ≡ p → length (past 0 (past 0 (drop 1 p))) ≤ 1
-        → strip (getD p 0 0 ∷ (upTo 0 (drop 1 p) ++ (0 ∷ (upTo 0 (past 0 (drop 1 p)) ++ (0 ∷ getD (past 0 (past 0 (drop 1 p))) 0 0 ∷ []))))) ≡ p
+    go : (p : List ℕ) → strip p ≡ p → length (beyond 2 (drop 1 p)) ≤ 1
+        → trim (getD p 0 0) (separated (getD (fieldsIn 2 (drop 1 p)) 0 [] ∷ getD (fieldsIn 2 (drop 1 p)) 1 [] ∷ trim (getD (beyond 2 (drop 1 p)) 0 0) [] ∷ [])) ≡ p
     go [] e h = refl
-    go (m ∷ r) e h = ap (trim m) (strip-parted r _ (strip-parted (past 0 r) _ (last-strip (past 0 (past 0 r)) h))) ∙ e
+    go (m ∷ s) e h =
+        let whole : strip s ≡ s = sym (trim-drop m (strip s)) ∙ ap (drop 1) e in
+        ap (λ (u : List ℕ). trim m (separated (upTo 0 s ∷ upTo 0 (past 0 s) ∷ u ∷ []))) (last-byte (past 0 (past 0 s)) h (beyond-strip 2 s whole)) ∙ ap (trim m) (rebuilt 2 s whole) ∙ ap (trim m) (sym whole) ∙ e
 
 -- block 1 with some of its fields left out is no longer
 pub record Less (f g : Library) : Type 0 where
@@ -95,31 +51,16 @@ pub record Less (f g : Library) : Type 0 where
   pub owner : (f .owner ≡ g .owner) ⊎ (f .owner ≡ [])
   pub usage : (f .usage ≡ g .usage) ⊎ (f .usage ≡ 0)
 
-left-zero : (v : ℕ) → left (0 ∷ []) ≤ left (v ∷ [])
-unfolding strip trim
-left-zero v = omega arith
-
 less-bytes : (f g : Library) → Less f g → length (libraryBytes f) ≤ length (libraryBytes g)
-unfolding libraryBytes
+unfolding libraryBytes trim
 less-bytes f g l =
-    let a : List ℕ = 0 ∷ f .usage ∷ [] in
-    let b : List ℕ = 0 ∷ g .usage ∷ [] in
-    let u : left a ≤ left b = left-cons 0 (f .usage ∷ []) (g .usage ∷ []) (last (f .usage) (g .usage) (l .usage)) in
-    let o : left (0 ∷ (f .owner ++ a)) ≤ left (0 ∷ (g .owner ++ b)) = left-cons 0 (f .owner ++ a) (g .owner ++ b) (left-less (f .owner) (g .owner) a b (l .owner) u) in
-    rw (l .media) (left-cons (g .media) (f .item ++ (0 ∷ (f .owner ++ a))) (g .item ++ (0 ∷ (g .owner ++ b)))
-    (left-less (f .item) (g .item) (0 ∷ (f .owner ++ a)) (0 ∷ (g .owner ++ b)) (l .item) o))
-  where
-    last : (u v : ℕ) → (u ≡ v) ⊎ (u ≡ 0) → left (u ∷ []) ≤ left (v ∷ [])
-    last u v (inl e) = rw e (le-refl _)
-    last u v (inr e) = rw e (left-zero v)
+    let usage = ⊎-elim (λ e. inl (ap (λ (u : ℕ). trim u []) e)) (λ e. inr (ap (λ (u : ℕ). trim u []) e)) (l .usage) in
+    rw (l .media) (trim-mono (g .media) _ _ (fewer-shorter _ _ (next (l .item) (next (l .owner) (next usage none)))))
 
-less-block : (f : Library) (b : List ℕ) → length (libraryBytes f) ≤ length (payload b) → length (blockOne f) ≤ length b
-unfolding blockOne payload
-less-block f b h = go (libraryBytes f) h
-  where
-    go : (p : List ℕ) → length p ≤ length (strip (drop 4 b)) → length (if isEmpty p then [] else sealed 1 p) ≤ length b
-    go [] h = omega arith
-    go (x ∷ p) h = omega (arith, sealed-length 1 (x ∷ p), strip-length (drop 4 b), length-drop 4 b)
+less-block : (id : ℕ) (p b : List ℕ) → length p ≤ length (payload b) → length (blockWith id p) ≤ length b
+unfolding blockWith payload
+less-block id [] b h = omega arith
+less-block id (x ∷ p) b h = omega (arith, sealed-length id (x ∷ p), strip-length (drop 4 b), length-drop 4 b)
 
 -- ---- an owner that was read from the owner field fits it
 
@@ -242,7 +183,7 @@ module _ (t : List ℕ) (r : Readable t) where
   block-shorter n l =
       let b : List ℕ = libraryBlock (blocksIn t) in
       let lt = library-tests b (fields-parts t (r .fields) .library) in
-      less-block (library n (contentIn t .slots)) b (omega (arith, less-bytes (library n (contentIn t .slots)) f (again-less n l), ap length (library-rebuilt b (lt .0))))
+      less-block 1 (libraryBytes (library n (contentIn t .slots))) b (omega (arith, less-bytes (library n (contentIn t .slots)) f (again-less n l), ap length (library-rebuilt b (lt .0))))
 
 -- ---- how many bytes the blocks have
 

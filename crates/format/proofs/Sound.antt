@@ -12,7 +12,7 @@ use Rattle.format.specs.Answers.{got}
 use Rattle.format.specs.Bytes.{if_then_else_, isEmpty, all, bytes, same, part, strip, past}
 use Rattle.format.specs.Text.{text}
 use Rattle.format.specs.Fields.{capital, isilOf, isil, hyphen, blank, alternate, alternative, isOwner, marker, marked, goodItem, prefixIn, ownerSaid, goodOwner, long}
-use Rattle.format.specs.Chain.{wellFormed, isLibrary, carriable, libraryBlock, otherBlocks, payload, lastField, libraryIn, goodLibrary}
+use Rattle.format.specs.Chain.{wellFormed, isLibrary, carriable, libraryBlock, otherBlocks, payload, fieldsIn, lastField, libraryIn, goodLibrary}
 use Rattle.format.specs.Elements.{numbers, placeIn, place, shape, form, value, clash, valuesAt, sound}
 use Rattle.format.specs.Damage.{blockAt}
 use Rattle.format.specs.Reading.{itemIn, ownerIn, blocksIn, libraryOn, goodFields, agree, ownerOn, contentIn, Readable}
@@ -111,7 +111,7 @@ others-formed (b ∷ bs) e = go (isLibrary b) refl (others-formed bs (and-r (han
 -- ---- block 1's fields are no longer than the block
 
 pub library-lengths : (b : List ℕ) → (length (libraryIn b .item) ≤ length b) × (length (libraryIn b .owner) ≤ length b)
-unfolding libraryIn payload
+unfolding libraryIn payload fieldsIn
 library-lengths b =
     let p : List ℕ = strip (drop 4 b) in
     let r : List ℕ = drop 1 p in (
@@ -120,13 +120,13 @@ library-lengths b =
     )
 
 pub library-tests : (b : List ℕ) → goodLibrary b ≡ true
-    → (length (lastField (payload b)) ≤ 1) × (text (libraryIn b .item) ≡ true) × (isEmpty (libraryIn b .owner) || isOwner (libraryIn b .owner) ≡ true)
+    → (length (lastField b) ≤ 1) × (text (libraryIn b .item) ≡ true) × (isEmpty (libraryIn b .owner) || isOwner (libraryIn b .owner) ≡ true)
 unfolding goodLibrary
 library-tests b e =
-    let x : Bool = leb (length (lastField (payload b))) 1 in
+    let x : Bool = leb (length (lastField b)) 1 in
     let y : Bool = text (libraryIn b .item) in
     let xy = and-l (x && y) _ e in
-    (leb-true (length (lastField (payload b))) 1 (and-l x y xy), and-r x y xy, and-r (x && y) _ e)
+    (leb-true (length (lastField b)) 1 (and-l x y xy), and-r x y xy, and-r (x && y) _ e)
 
 -- ---- the values
 

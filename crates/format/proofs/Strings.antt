@@ -118,7 +118,7 @@ pub length-pad : (b n : ℕ) (s : List ℕ) → length s ≤ n → length (padWi
 unfolding padWith
 length-pad b n s h = simp (length-append, length-replicate) (omega arith)
 
-trim-head : (x : ℕ) (r : List ℕ) → getD (trim x r) 0 0 ≡ x
+pub trim-head : (x : ℕ) (r : List ℕ) → getD (trim x r) 0 0 ≡ x
 unfolding trim
 trim-head zero [] = refl
 trim-head zero (y ∷ ys) = refl
@@ -128,7 +128,7 @@ pub head-strip : (x : ℕ) (s : List ℕ) → getD (strip (x ∷ s)) 0 0 ≡ x
 unfolding strip
 head-strip x s = trim-head x (strip s)
 
-trim-drop : (x : ℕ) (r : List ℕ) → drop 1 (trim x r) ≡ r
+pub trim-drop : (x : ℕ) (r : List ℕ) → drop 1 (trim x r) ≡ r
 unfolding trim
 trim-drop zero [] = refl
 trim-drop zero (y ∷ ys) = refl
@@ -139,7 +139,7 @@ unfolding strip
 drop-strip x s = trim-drop x (strip s)
 
 -- stripping twice strips once
-trim-trim : (x : ℕ) (r : List ℕ) → strip r ≡ r → strip (trim x r) ≡ trim x r
+pub trim-trim : (x : ℕ) (r : List ℕ) → strip r ≡ r → strip (trim x r) ≡ trim x r
 unfolding trim strip
 trim-trim zero [] e = refl
 trim-trim zero (y ∷ ys) e = ap (trim zero) e
@@ -171,7 +171,7 @@ strip-behind (x ∷ s) r n e = ap (trim x) (strip-behind s r n e) ∙ trim-some 
 -- ---- parted at a byte
 
 -- (`eqb` computes at literals only)
-suc-other : (x : ℕ) → eqb (suc x) 0 ≡ false
+pub suc-other : (x : ℕ) → eqb (suc x) 0 ≡ false
 suc-other x = ne-eqb (suc x) 0 (omega arith)
 
 -- no byte is b

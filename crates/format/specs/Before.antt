@@ -10,7 +10,7 @@ use Rattle.format.specs.Answers.{Answer, Step, need, inOrder, afterwards
 use Rattle.format.specs.Bytes.{if_then_else_, isEmpty, all, between, filled}
 use Rattle.format.specs.Pages.{changed}
 use Rattle.format.specs.Fields.{isilOf, isil, alternate, marked, prefixIn}
-use Rattle.format.specs.Chain.{Library, libraryBlock, payload, lastField, libraryIn}
+use Rattle.format.specs.Chain.{Library, libraryBlock, lastField, libraryIn}
 use Rattle.format.specs.Elements.{numbers, required, shape, known, el, put}
 use Rattle.format.specs.Sheet.{Entry, entriesIn, present}
 use Rattle.format.specs.Layout.{image}
@@ -39,7 +39,7 @@ module _ (rule : List ℕ → Bool) where
   unfoldable pub goodLibraryBy : List ℕ → Bool
   goodLibraryBy b =
       let f : Library = libraryIn b in
-      leb (length (lastField (payload b))) 1 && rule (f .item) && (isEmpty (f .owner) || isOwnerBy (f .owner))
+      leb (length (lastField b)) 1 && rule (f .item) && (isEmpty (f .owner) || isOwnerBy (f .owner))
 
   unfoldable pub goodFieldsBy : List ℕ → Bool
   goodFieldsBy t =

@@ -5,7 +5,7 @@ use mathlib.Core.List.{List, [], _∷_, _++_}
 use lib.ListN.{length, getD, take, drop}
 use lib.Dec.{leb, eqb}
 use Rattle.format.specs.Answers.{Answer, got, Step, needAt, inOrder, andThen}
-use Rattle.format.specs.Bytes.{if_then_else_, isEmpty, le16, word, xorAll, strip, upTo, past}
+use Rattle.format.specs.Bytes.{if_then_else_, isEmpty, le16, word, xorAll, trim, strip, upTo, past}
 use Rattle.format.specs.Text.{text}
 use Rattle.format.specs.Fields.{isOwner}
 
@@ -91,42 +91,26 @@ unfoldable pub otherBlocks : List (List ℕ) → List (List ℕ)
 otherBlocks [] = []
 otherBlocks (b ∷ bs) = if isLibrary b then otherBlocks bs else b ∷ otherBlocks bs
 
--- ---- block 1, after its four leading bytes: media format, item field, 00, owner field, 00, usage byte
+-- ---- the content of a structured block: fields with a 00 between them
 
-pub record Library : Type 0 where
-  pub media : ℕ
-  pub item : List ℕ
-  pub owner : List ℕ
-  pub usage : ℕ
-
--- what follows the leading bytes, trailing 00 stripped
+-- what follows the four leading bytes, trailing 00 stripped by the reader
 unfoldable pub payload : List ℕ → List ℕ
 payload b = strip (drop 4 b)
 
--- what follows the second separator
-unfoldable pub lastField : List ℕ → List ℕ
-lastField p = past 0 (past 0 (drop 1 p))
+-- its first n fields; missing fields are empty
+unfoldable pub fieldsIn : ℕ → List ℕ → List (List ℕ)
+fieldsIn zero s = []
+fieldsIn (suc n) s = upTo 0 s ∷ fieldsIn n (past 0 s)
 
--- missing fields are empty, a missing media or usage byte is 00
-unfoldable pub libraryIn : List ℕ → Library
-libraryIn b =
-    let p : List ℕ = payload b in
-    record {
-      media = getD p 0 0;
-      item = upTo 0 (drop 1 p);
-      owner = upTo 0 (past 0 (drop 1 p));
-      usage = getD (lastField p) 0 0;
-    }
+-- what follows the n-th separator
+unfoldable pub beyond : ℕ → List ℕ → List ℕ
+beyond zero s = s
+beyond (suc n) s = beyond n (past 0 s)
 
--- more than one byte after the second separator is a bad field; so is an item that is no text, an owner that is none
-unfoldable pub goodLibrary : List ℕ → Bool
-goodLibrary b =
-    let f : Library = libraryIn b in
-    leb (length (lastField (payload b))) 1 && text (f .item) && (isEmpty (f .owner) || isOwner (f .owner))
-
--- trailing 00 bytes are dropped by the writer
-unfoldable pub libraryBytes : Library → List ℕ
-libraryBytes f = strip (f .media ∷ (f .item ++ (0 ∷ (f .owner ++ (0 ∷ f .usage ∷ [])))))
+-- trailing 00 bytes are dropped by the writer: a 00 follows a field only where something follows the 00
+unfoldable pub separated : List (List ℕ) → List ℕ
+separated [] = []
+separated (f ∷ fs) = f ++ trim 0 (separated fs)
 
 -- a structured block with its length, ID and checksum
 unfoldable pub sealed : ℕ → List ℕ → List ℕ
@@ -134,6 +118,42 @@ sealed id p =
     let head : List ℕ = (length p + 4) ∷ le16 id in
     head ++ (xorAll (head ++ p) ∷ p)
 
--- block 1 if it has anything
-unfoldable pub blockOne : Library → List ℕ
-blockOne f = if isEmpty (libraryBytes f) then [] else sealed 1 (libraryBytes f)
+-- the block of an ID if it has anything
+unfoldable pub blockWith : ℕ → List ℕ → List ℕ
+blockWith id p = if isEmpty p then [] else sealed id p
+
+-- ---- block 1: media format (1 byte), item field, 00, owner field, 00, usage byte
+
+pub record Library : Type 0 where
+  pub media : ℕ
+  pub item : List ℕ
+  pub owner : List ℕ
+  pub usage : ℕ
+
+-- what follows the second separator
+abbrev pub lastField : List ℕ → List ℕ
+lastField b = beyond 2 (drop 1 (payload b))
+
+-- a missing media or usage byte is 00
+unfoldable pub libraryIn : List ℕ → Library
+libraryIn b =
+    let fields : List (List ℕ) = fieldsIn 2 (drop 1 (payload b)) in
+    record {
+      media = getD (payload b) 0 0;
+      item = getD fields 0 [];
+      owner = getD fields 1 [];
+      usage = getD (lastField b) 0 0;
+    }
+
+-- more than one byte after the second separator is a bad field; so is an item that is no text, an owner that is none
+unfoldable pub goodLibrary : List ℕ → Bool
+goodLibrary b =
+    let f : Library = libraryIn b in
+    leb (length (lastField b)) 1 && text (f .item) && (isEmpty (f .owner) || isOwner (f .owner))
+
+-- a usage byte 00 is no field
+unfoldable pub libraryBytes : Library → List ℕ
+libraryBytes f = trim (f .media) (separated (f .item ∷ f .owner ∷ trim (f .usage) [] ∷ []))
+
+abbrev pub blockOne : Library → List ℕ
+blockOne f = blockWith 1 (libraryBytes f)
