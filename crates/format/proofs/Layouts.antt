@@ -17,7 +17,7 @@ use Rattle.format.specs.Text.{text}
 use Rattle.format.specs.Fields.{marker, hyphen, long, alternate, ownerSaid, goodItem, goodOwner, itemField, packed, basicOwner, ownerField}
 use Rattle.format.specs.Chain.{chain, libraryBlock, otherBlocks, libraryIn, goodLibrary, blockOne}
 use Rattle.format.specs.Elements.{Content, numbers, placeIn, place, known, el, shape, sound}
-use Rattle.format.specs.Layout.{ownerWidth, ownerOf, usageOf, library, firstByte, front, basic, laidOut, layout, hasLayout, image, fits}
+use Rattle.format.specs.Layout.{ownerWidth, ownerOf, usageOf, library, firstByte, front, basic, ownBlocks, laidOut, layout, hasLayout, image, fits}
 use Rattle.format.specs.Reading.{walked, blocksIn, libraryOn, goodFields, agree, ownerOn, contentIn, Readable}
 use Rattle.format.proofs.Tests.{and-l, and-r, and-i, or-inv, same-refl}
 use Rattle.format.proofs.Answers.{or-else-got}
@@ -109,15 +109,15 @@ module _ (n : ℕ) (c : Content) where
   checkPart = le16 (crc (front (c .slots) ++ pad 13 ownPart))
 
   abbrev tailPart : List ℕ
-  tailPart = blockOne (library n (c .slots)) ++ (joined (c .carried) ++ replicate (n - length (laidOut n (c .slots) (joined (c .carried)))) 0)
+  tailPart = ownBlocks n (c .slots) ++ (joined (c .carried) ++ replicate (n - length (laidOut n (c .slots) (joined (c .carried)))) 0)
 
   pub image-shape : image n c ≡ shaped (firstByte (usageOf (c .slots))) (getD (el c 4) 0 0) (getD (el c 4) 2 0) (itemField (el c 1)) checkPart ownPart tailPart (item-length (el c 1)) (le16-length _)
   unfolding layout padWith laidOut basic front
   image-shape =
-      let one : List ℕ = blockOne (library n (c .slots)) in
+      let own : List ℕ = ownBlocks n (c .slots) in
       let zeros : List ℕ = replicate (n - length (laidOut n (c .slots) (joined (c .carried)))) 0 in
-      append-assoc (basic n (c .slots)) (one ++ joined (c .carried)) zeros
-      ∙ ap (λ (r : List ℕ). basic n (c .slots) ++ r) (append-assoc one (joined (c .carried)) zeros)
+      append-assoc (basic n (c .slots)) (own ++ joined (c .carried)) zeros
+      ∙ ap (λ (r : List ℕ). basic n (c .slots) ++ r) (append-assoc own (joined (c .carried)) zeros)
       ∙ append-assoc (front (c .slots)) (checkPart ++ ownPart) tailPart
       ∙ ap (λ (r : List ℕ). front (c .slots) ++ r) (append-assoc checkPart ownPart tailPart)
 
@@ -140,13 +140,13 @@ module _ (n : ℕ) (c : Content) where
       let w : ownerWidth n ≡ 11 = rw e in
       let lo = owner-length (ownerWidth n) (ownerOf (c .slots)) (omega arith) in
       let m : ℕ = n - length (laidOut n (c .slots) (joined (c .carried))) in
-      let one : List ℕ = blockOne (library n (c .slots)) in
+      let own : List ℕ = ownBlocks n (c .slots) in
       let z : tailPart ≡ [] = nil-of tailPart (omega (
         arith,
         basic-length (omega arith),
-        length-append (basic n (c .slots)) (one ++ joined (c .carried)),
-        length-append one (joined (c .carried)),
-        length-append one (joined (c .carried) ++ replicate m 0),
+        length-append (basic n (c .slots)) (own ++ joined (c .carried)),
+        length-append own (joined (c .carried)),
+        length-append own (joined (c .carried) ++ replicate m 0),
         length-append (joined (c .carried)) (replicate m 0),
         length-replicate {A = ℕ} m 0,
       )) in

@@ -8,10 +8,9 @@ use lib.ListN.{length, length-append}
 use borrow.Author.Tests.{le-leb}
 use Rattle.format.specs.Bytes.{all, bytes, joined}
 use Rattle.format.specs.Pages.{goodSize}
-use Rattle.format.specs.Chain.{blockOne}
 use Rattle.format.specs.Elements.{Content, numbers, form, value, valuesAt, sound}
 use Rattle.format.specs.Sheet.{Entry, bodies, bodyAt, sheetOf, offsetsFit, fitting, entriesAt, carriedEntries, entries}
-use Rattle.format.specs.Layout.{library, basic, laidOut}
+use Rattle.format.specs.Layout.{basic, ownBlocks, laidOut}
 use Rattle.format.specs.Reading.{blocksIn, contentIn, Readable}
 use Rattle.format.specs.History.{Own}
 use Rattle.format.proofs.Tests.{never, and-l, and-r, and-i}
@@ -102,7 +101,7 @@ own-fitting p c t g o =
     content-fitting c (o .sane) (omega (
       arith,
       fits-parts n c (o .fit) .1,
-      length-append (basic n (c .slots)) (blockOne (library n (c .slots)) ++ joined (c .carried)),
-      length-append (blockOne (library n (c .slots))) (joined (c .carried)),
+      length-append (basic n (c .slots)) (ownBlocks n (c .slots) ++ joined (c .carried)),
+      length-append (ownBlocks n (c .slots)) (joined (c .carried)),
       size-most p n g,
     ))

@@ -14,7 +14,7 @@ use Rattle.format.specs.Pages.{goodSize}
 use Rattle.format.specs.Fields.{isilOf, hyphen, blank, alternate, alternative, marked, prefixIn, ownerSaid, goodOwner, long, packed, basicOwner}
 use Rattle.format.specs.Chain.{isLibrary, libraryBlock, otherBlocks, Library, payload, fieldsIn, beyond, separated, blockWith, lastField, libraryIn, libraryBytes, blockOne}
 use Rattle.format.specs.Elements.{Content, numbers, placeIn, place}
-use Rattle.format.specs.Layout.{ownerWidth, ownerOf, library, basic, laidOut, fits, hasLayout}
+use Rattle.format.specs.Layout.{ownerWidth, ownerOf, library, basic, ownBlocks, laidOut, fits, hasLayout}
 use Rattle.format.specs.Reading.{mainUsage, itemIn, ownerIn, blocksIn, libraryOn, ownerOn, contentIn, Readable}
 use Rattle.format.proofs.Tests.{never, beq-false, and-i, or-r}
 use Rattle.format.proofs.Strings.{some-behind, part-length, strip-length, trim-drop, strip-strip, length-pad, up-to-before, past-before}
@@ -217,11 +217,10 @@ module _ (p : ℕ) (t : List ℕ) (y : bytes t ≡ true) (g : goodSize p (length
   own-in-width : length (ownerIn t) ≤ ownerWidth (length t)
   own-in-width = omega (arith, strip-length (part 21 13 t), length-take 13 (drop 21 t), length-drop 21 t)
 
-  laid-blocks : length (blockOne (library (length t) (contentIn t .slots)) ++ joined (contentIn t .carried)) ≤ length (joined (blocksIn t))
+  laid-blocks : length (ownBlocks (length t) (contentIn t .slots) ++ joined (contentIn t .carried)) ≤ length (joined (blocksIn t))
   unfolding contentIn
   laid-blocks =
-      let one : List ℕ = blockOne (library (length t) (contentIn t .slots)) in
-      omega (arith, length-append one (joined (otherBlocks (blocksIn t))), block-shorter t r (length t) own-in-width, split-total (blocksIn t))
+      omega (arith, length-append (ownBlocks (length t) (contentIn t .slots)) (joined (otherBlocks (blocksIn t))), block-shorter t r (length t) own-in-width, split-total (blocksIn t))
 
   wide : (3 ≤ ownerWidth (length t)) × (21 + ownerWidth (length t) + (length t - 34) ≤ length t)
   wide = elim (size-cases p (length t) g) [ inl e ↦ rw e (omega arith, omega arith) | inr e ↦ (omega arith, omega arith) ]
@@ -232,7 +231,7 @@ module _ (p : ℕ) (t : List ℕ) (y : bytes t ≡ true) (g : goodSize p (length
   laid-shorter =
       let n : ℕ = length t in
       let c : Content = contentIn t in
-      omega (arith, length-append (basic n (c .slots)) (blockOne (library n (c .slots)) ++ joined (c .carried)), basic-length n c (wide .0), laid-blocks)
+      omega (arith, length-append (basic n (c .slots)) (ownBlocks n (c .slots) ++ joined (c .carried)), basic-length n c (wide .0), laid-blocks)
 
   -- so it exists
   pub read-fits : fits (length t) (contentIn t) ≡ true

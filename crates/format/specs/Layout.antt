@@ -45,9 +45,13 @@ basic n ss =
     let own : List ℕ = ownerField (ownerWidth n) (ownerOf ss) in
     front ss ++ (le16 (crc (front ss ++ pad 13 own)) ++ own)
 
--- the basic block, block 1 if it has anything, carried blocks in sheet order: `blocks` are their bytes
+-- the blocks that hold elements: block 1 if it has anything
+abbrev pub ownBlocks : ℕ → List (List ℕ) → List ℕ
+ownBlocks n ss = blockOne (library n ss)
+
+-- the basic block, these, carried blocks in sheet order: `blocks` are their bytes
 unfoldable pub laidOut : ℕ → List (List ℕ) → List ℕ → List ℕ
-laidOut n ss blocks = basic n ss ++ (blockOne (library n ss) ++ blocks)
+laidOut n ss blocks = basic n ss ++ (ownBlocks n ss ++ blocks)
 
 -- a 00 if room is left, and 00 to the end
 unfoldable pub layout : ℕ → List (List ℕ) → List ℕ → List ℕ
