@@ -13,7 +13,7 @@ use Rattle.format.specs.Answers.{got, andThen}
 use Rattle.format.specs.Bytes.{if_then_else_, isEmpty, all, le16, word, xorAll, trim, strip, joined}
 use Rattle.format.specs.Text.{text}
 use Rattle.format.specs.Fields.{isOwner}
-use Rattle.format.specs.Chain.{lengthOf, idOf, whole, named, summed, wellFormed, isLibrary, carriable, damageSteps, damageOf, walk, chain, libraryBlock, otherBlocks, payload, beyond, separated, sealed, blockWith, Library, lastField, libraryIn, goodLibrary, libraryBytes, blockOne}
+use Rattle.format.specs.Chain.{lengthOf, idOf, whole, named, summed, wellFormed, isLibrary, carriable, damageSteps, damageOf, walk, chain, libraryBlock, otherBlocks, payload, beyond, separated, sealed, blockWith, Library, lastField, libraryIn, goodLibrary, libraryFields, libraryBytes, blockOne}
 use Rattle.format.proofs.Tests.{and-l, and-r, and-i, not-t}
 use Rattle.format.proofs.Answers.{need-at-ok, need-at-inv, then-ok, first-ok, first-inv, none-ok}
 use Rattle.format.proofs.Strings.{word-le16, trim-head, trim-drop, trim-trim, suc-other, solid}
@@ -164,27 +164,26 @@ byte-back zero = (refl, refl)
 byte-back (suc u) = (refl, refl)
 
 module _ (f : Library) (i : solid (f .item) ≡ true) (o : solid (f .owner) ≡ true) where
-  fields : List (List ℕ)
-  fields = f .item ∷ f .owner ∷ trim (f .usage) [] ∷ []
+  abbrev fields : List (List ℕ)
+  fields = libraryFields f
 
   whole-fields : all solid fields ≡ true
-  unfolding fields all
+  unfolding all
   whole-fields = and-i i (and-i o (and-i (byte-solid (f .usage)) refl))
 
   payload-is : payload (blockOne f) ≡ trim (f .media) (separated fields)
-  unfolding libraryBytes fields
+  unfolding libraryBytes
   payload-is = payload-back 1 (libraryBytes f) (trim-trim (f .media) (separated fields) (separated-strip fields whole-fields))
 
   behind-media : drop 1 (payload (blockOne f)) ≡ separated fields
   behind-media = ap (drop 1) payload-is ∙ trim-drop (f .media) (separated fields)
 
   last-back : lastField (blockOne f) ≡ separated (trim (f .usage) [] ∷ [])
-  unfolding fields
   last-back = ap (beyond 2) behind-media ∙ beyond-separated 2 fields whole-fields
 
   -- the fields of block 1 come back
   pub library-back : libraryIn (blockOne f) ≡ f
-  unfolding libraryIn fields
+  unfolding libraryIn
   library-back =
       rw (last-back, behind-media, payload-is, fields-separated 2 fields whole-fields (omega arith), trim-head (f .media) (separated fields), byte-back (f .usage) .0)
 

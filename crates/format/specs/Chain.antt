@@ -152,8 +152,11 @@ goodLibrary b =
     leb (length (lastField b)) 1 && text (f .item) && (isEmpty (f .owner) || isOwner (f .owner))
 
 -- a usage byte 00 is no field
+abbrev pub libraryFields : Library → List (List ℕ)
+libraryFields f = f .item ∷ f .owner ∷ trim (f .usage) [] ∷ []
+
 unfoldable pub libraryBytes : Library → List ℕ
-libraryBytes f = trim (f .media) (separated (f .item ∷ f .owner ∷ trim (f .usage) [] ∷ []))
+libraryBytes f = trim (f .media) (separated (libraryFields f))
 
 abbrev pub blockOne : Library → List ℕ
 blockOne f = blockWith 1 (libraryBytes f)

@@ -8,7 +8,7 @@ use lib.ListN.{length, take, drop, set, length-append, length-set, length-replic
 use lib.Seq.{take-at, drop-at, drop-drop, length-take-le, take-set-le, drop-set-add, set-append-left}
 use Rattle.format.specs.Pieces.{stored}
 use Rattle.format.proofs.Pieces.{stored-none, stored-length, stored-then, stored-byte}
-use Rattle.image.specs.Laying.{zeros, Blank}
+use Rattle.image.specs.Laying.{zeros, Blank, On}
 
 pub drop-zeros : (k n : ℕ) → drop k (zeros n) ≡ zeros (n - k)
 drop-zeros zero n = ap (λ (m : ℕ). zeros m) (sym (sub-zero n))
@@ -35,12 +35,6 @@ stored-zeros at k d h b =
     (l, sym (take-append-drop at d) ∙ ap (λ (y : List ℕ). take at d ++ y) z ∙ ap (λ (m : ℕ). take at d ++ (zeros k ++ drop m d)) l)
 
 -- ---- piece by piece
-
--- d is o, 00 from byte `at` on, with s stored there; m is the place behind s
-pub record On (at : ℕ) (o s : List ℕ) (m : ℕ) (d : List ℕ) : Type 0 where
-  pub blank : Blank at o
-  pub room : m ≤ length o
-  pub is : stored o at s m d
 
 pub start : (at : ℕ) (o : List ℕ) → at ≤ length o → Blank at o → On at o [] at o
 start at o h b = record { blank = b; room = h; is = stored-none o at }

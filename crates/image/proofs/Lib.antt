@@ -1,6 +1,6 @@
 pub mod Drafts
+pub mod Contents
 pub mod OwnerForms
-pub mod BlockBytes
 pub mod Laws
 pub mod Placing
 pub mod One

@@ -1,32 +1,33 @@
 -- What the elements give the layout, as the code finds it: by the row, by their lengths, and by their values.
 use mathlib.Core.Path.{_≡_, refl, sym, ap, ap₂, _∙_}
-use mathlib.Core.Logic.{inl}
-use Prim.Native.Nat.{ℕ, _+_, _-_, _%_, _≤_, _<_}
+use mathlib.Core.Logic.{inl, inr}
+use Prim.Native.Nat.{ℕ, zero, suc, _+_, _-_, _%_, _≤_, _<_}
 use native.Mathlib.Nat.{zero-add}
 use native.Mathlib.Omega.{arith}
 use mathlib.Core.Bool.{Bool, true, false, not, _&&_, _||_}
 use mathlib.Core.List.{List, [], _∷_, _++_, append-assoc}
 use lib.Dec.{eqb, leb}
 use lib.ListN.{length, drop, getD, length-append, List·getD-map}
-use borrow.Author.Tests.{eq-eqb, ne-eqb, le-leb, lt-leb, leb-true}
-use Rattle.format.specs.Bytes.{if_then_else_, isEmpty, le16, part}
+use borrow.Author.Tests.{eqb-false, eq-eqb, ne-eqb, le-leb, lt-leb, leb-true}
+use Rattle.format.specs.Bytes.{if_then_else_, isEmpty, all, le16, part, trim}
 use Rattle.format.specs.Text.{text}
 use Rattle.format.specs.Fields.{long, itemField, basicOwner, ownerField}
-use Rattle.format.specs.Chain.{Library, blockOne}
+use Rattle.format.specs.Chain.{sealed, blockWith, libraryFields, blockOne}
 use Rattle.format.specs.Elements.{numbers, placeIn, place, slot, shape, value, clash}
-use Rattle.format.specs.Layout.{ownerWidth, ownerOf, library, firstByte, front, basic, laidOut, hasLayout}
+use Rattle.format.specs.Layout.{ownerWidth, ownerOf, usageOf, library, firstByte, front, basic, laidOut, hasLayout}
 use Rattle.format.specs.Pieces.{stored}
-use Rattle.format.proofs.Tests.{and-l, and-r, or-false}
-use Rattle.format.proofs.Strings.{nil-of, empty-length}
+use Rattle.format.proofs.Tests.{and-l, and-r, and-i, or-false, bytes-at}
+use Rattle.format.proofs.Strings.{nil-of, empty-length, trim-other}
 use Rattle.format.proofs.Slots.{values-length, values-at}
 use Rattle.format.proofs.Values.{value-short, value-text, value-isil, value-alternative, value-usage, value-set, owner-either}
+use Rattle.format.proofs.Blocks.{sealed-length}
 use Rattle.format.proofs.Layouts.{owner-length, basic-length}
 use Rattle.format.proofs.Pieces.{stored-none}
-use Rattle.rows.specs.Rows.{slotsAt, Stands}
-use Rattle.rows.proofs.Rows.{row-lengths, slots-length, row-at, slot-at, lengths-are}
-use Rattle.image.specs.Laying.{Lengths, OwnerOrNone, fieldsOf, Given, zeros}
+use Rattle.rows.specs.Rows.{slotsAt, Stands, Row, none, next}
+use Rattle.rows.proofs.Rows.{row-lengths, slots-length, row-at, slot-at, lengths-are, row-short}
+use Rattle.image.specs.Laying.{Lengths, OwnerOrNone, Few, zeros, On}
 use Rattle.image.specs.Drafting.{Draftable, unsealed}
-use Rattle.image.proofs.Drafts.{drop-zeros, blank-all, On, start, on-length, put, gap}
+use Rattle.image.proofs.Drafts.{drop-zeros, blank-all, start, on-length, put, gap}
 use Rattle.image.proofs.Laws.{front-length, own, tail, shape-front, shape-behind}
 
 -- ---- by the lengths
@@ -65,6 +66,10 @@ either : (P : List ℕ → Type 0) (t : Bool) (x y : List ℕ) → P x → P y �
 either P true x y p q = p
 either P false x y p q = q
 
+at-most : (t : Bool) (n : ℕ) → (if t then 0 else n) ≤ n
+at-most true n = omega arith
+at-most false n = omega arith
+
 module _ {src made ats lens d : List ℕ} (p : Draftable src made ats lens d) where
   abbrev pub ss : List (List ℕ)
   ss = slotsAt (src ++ made) ats lens
@@ -78,6 +83,9 @@ module _ {src made ats lens d : List ℕ} (p : Draftable src made ats lens d) wh
 
   pub stands : (k : ℕ) → k < 7 → (k < 7) × Stands src made (getD ats k 0) (getD lens k 0)
   stands k h = (h, row-at src made ats lens (p .row) k (omega (arith, seven)))
+
+  stands-less : (k n : ℕ) → k < 7 → n ≤ getD lens k 0 → Stands src made (getD ats k 0) n
+  stands-less k n i h = elim (stands k i .1) [ inl e ↦ inl (omega (arith, e, h)) | inr e ↦ inr (e .0, omega (arith, e .1, h)) ]
 
   pub slot-is : (k : ℕ) → k < 7 → part (getD ats k 0) (getD lens k 0) (src ++ made) ≡ getD ss k []
   slot-is k h = sym (slot-at (src ++ made) ats lens (row-lengths src made ats lens (p .row)) k (omega (arith, seven)))
@@ -107,38 +115,79 @@ module _ {src made ats lens d : List ℕ} (p : Draftable src made ats lens d) wh
           short = either (λ s. length s ≤ 255) (isEmpty isil) other isil (value-short 23 other v23) (value-short 3 isil v3);
         }
 
-    pub library-given : (n : ℕ) → Given (library n ss)
-    unfolding library shape place placeIn numbers
-    library-given n =
-        let item : List ℕ = getD ss 0 [] in
-        let second : List ℕ = getD ss 5 [] in
-        let owner : List ℕ = ownerOf ss in
-        let v1 = value-at 0 (omega arith) in
-        let v22 = value-at 5 (omega arith) in
-        record {
-          text-item = either (λ s. text s ≡ true) (long item) item second (value-text 1 item refl v1) (value-text 22 second refl v22);
-          short-item = either (λ s. length s ≤ 255) (long item) item second (value-short 1 item v1) (value-short 22 second v22);
-          good-owner = either OwnerOrNone (isEmpty owner || basicOwner (ownerWidth n) owner) [] owner (record { kind = inl refl; short = omega arith }) owner-good;
-        }
+  short-at : (k : ℕ) → getD lens k 0 ≤ 255
+  short-at k = bytes-at k lens (row-short src made ats lens (p .row) numbers (p .values))
+
+  -- block 1's fields, as the code finds them: the item, the owner's length if it belongs there, the usage byte's
+  module _ (n item name behind code : ℕ) (hi : item < 7) (hn : name < 7) (ei : getD ss item [] ≡ library n ss .item) (en : getD ss name [] ≡ ownerOf ss)
+      (eb : behind ≡ (if isEmpty (ownerOf ss) || basicOwner (ownerWidth n) (ownerOf ss) then 0 else length (ownerOf ss))) (ec : code ≡ (if eqb (usageOf ss % 16) 0 then 0 else 1)) where
+    abbrev places : List ℕ
+    places = getD ats item 0 ∷ getD ats name 0 ∷ getD ats 3 0 ∷ []
+
+    abbrev sizes : List ℕ
+    sizes = getD lens item 0 ∷ behind ∷ code ∷ []
+
+    owner-long : length (ownerOf ss) ≡ getD lens name 0
+    owner-long = ap length (sym en) ∙ length-at ss lens sized name
+
+    usage-long : getD lens 3 0 ≡ 1
+    usage-long = sym (length-at ss lens sized 3) ∙ usage-one
+
+    owner-some : behind ≤ getD lens name 0
+    owner-some = omega (arith, eb, owner-long, at-most (isEmpty (ownerOf ss) || basicOwner (ownerWidth n) (ownerOf ss)) (length (ownerOf ss)))
+
+    usage-some : code ≤ 1
+    usage-some = omega (arith, ec, at-most (eqb (usageOf ss % 16) 0) 1)
+
+    pub fields-row : Row src made places sizes
+    fields-row = next (stands item hi .1) (next (stands-less name behind hn owner-some) (next (stands-less 3 code (omega arith) (omega (arith, usage-some, usage-long))) none))
+
+    pub fields-few : Few sizes
+    unfolding all
+    fields-few = record {
+      count = omega arith;
+      short = and-i (le-leb _ 255 (short-at item)) (and-i (le-leb behind 255 (omega (arith, owner-some, short-at name))) (and-i (le-leb code 255 (omega (arith, usage-some))) refl));
+    }
+
+    owner-field : part (getD ats name 0) behind (src ++ made) ≡ library n ss .owner
+    unfolding library
+    owner-field = go (isEmpty (ownerOf ss) || basicOwner (ownerWidth n) (ownerOf ss)) eb
+      where
+        go : (t : Bool) → behind ≡ (if t then 0 else length (ownerOf ss)) → part (getD ats name 0) behind (src ++ made) ≡ (if t then [] else ownerOf ss)
+        go true e = rw e
+        go false e = rw (e ∙ owner-long) (slot-is name hn ∙ en)
+
+    usage-field : part (getD ats 3 0) code (src ++ made) ≡ trim (library n ss .usage) []
+    unfolding library numbers trim place placeIn
+    usage-field = go (eqb (usageOf ss % 16) 0) refl ec
+      where
+        go : (t : Bool) → eqb (usageOf ss % 16) 0 ≡ t → code ≡ (if t then 0 else 1) → part (getD ats 3 0) code (src ++ made) ≡ trim (if t then 0 else usageOf ss) []
+        go true z e = rw e
+        go false z e =
+            let some : usageOf ss ≡ 0 → ⊥ = λ h. eqb-false (usageOf ss % 16) 0 z (rw h) in
+            rw (e ∙ sym usage-long) (slot-is 3 (omega arith) ∙ value-usage (getD ss 3 []) (value-at 3 (omega arith))) ∙ sym (trim-other (usageOf ss) [] some)
+
+    pub fields-are : slotsAt (src ++ made) places sizes ≡ libraryFields (library n ss)
+    unfolding slotsAt
+    fields-are = rw (slot-is item hi ∙ ei, owner-field, usage-field)
 
 -- ---- block 1
 
 -- it holds an owner where the basic forms do not
-pub behind-told : (w : ℕ) (o name : List ℕ) → name ≡ (if isEmpty o || basicOwner w o then [] else o) → not (eqb (length name) 0) ≡ not (isEmpty o || basicOwner w o)
-behind-told w o name e = ap not (sym (empty-length name) ∙ ap isEmpty e ∙ empty-name (basicOwner w o) o)
+pub behind-told : (w : ℕ) (o : List ℕ) (behind : ℕ) → behind ≡ (if isEmpty o || basicOwner w o then 0 else length o) → not (eqb behind 0) ≡ not (isEmpty o || basicOwner w o)
+behind-told w o behind e = ap (λ (k : ℕ). not (eqb k 0)) e ∙ ap not (go (basicOwner w o) o)
   where
-    empty-name : (t : Bool) (s : List ℕ) → isEmpty (if isEmpty s || t then [] else s) ≡ isEmpty s || t
-    empty-name t [] = refl
-    empty-name true (x ∷ s) = refl
-    empty-name false (x ∷ s) = refl
+    go : (t : Bool) (s : List ℕ) → eqb (if isEmpty s || t then 0 else length s) 0 ≡ isEmpty s || t
+    go t [] = refl
+    go true (x ∷ s) = refl
+    go false (x ∷ s) = ne-eqb (suc (length s)) 0 (λ z. omega arith)
 
--- its fields, from what the code finds of each
-
-pub fields-are : (n : ℕ) (ss : List (List ℕ)) (media usage code : ℕ) (item owner name : List ℕ) → media ≡ getD (getD ss 4 []) 0 0 → item ≡ (if long (slot ss 1) then slot ss 1 else slot ss 22)
-    → owner ≡ ownerOf ss → name ≡ (if isEmpty owner || basicOwner (ownerWidth n) owner then [] else owner) → usage ≡ getD (getD ss 3 []) 0 0 → code ≡ (if eqb (usage % 16) 0 then 0 else usage)
-    → fieldsOf media item name code ≡ library n ss
-unfolding library place placeIn numbers
-fields-are n ss media usage code item owner name em ei eo en eu ec = rw (em, ei, en, eo, ec, eu)
+-- with a byte before its fields, if it has anything
+pub block-some : (m : ℕ) (r : List ℕ) → (length (blockWith 1 (trim m r)) ≡ 0 → ⊥) → (blockWith 1 (trim m r) ≡ sealed 1 (m ∷ r)) × (length (blockWith 1 (trim m r)) ≡ 5 + length r)
+unfolding blockWith trim
+block-some zero [] n = absurd (n refl)
+block-some zero (y ∷ r) n = (refl, sealed-length 1 (zero ∷ y ∷ r) ∙ omega arith)
+block-some (suc m) r n = (refl, sealed-length 1 (suc m ∷ r) ∙ omega arith)
 
 -- ---- room
 
@@ -198,32 +247,32 @@ module _ {ss : List (List ℕ)} {blocks d₀ : List ℕ} (p : Ready ss blocks d�
         put x (ownerField (ownerWidth n) (ownerOf ss)) d₂ at (omega arith) (is ∙ f .0, f .1)
 
     module _ (size : ℕ) (long : size ≡ length (blockOne (library n ss))) (d₂ : List ℕ) (x : On 0 d₀ owned at d₂) where
-      pub third : (f : Library) (d₃ : List ℕ) → f ≡ library n ss → stored d₂ at (blockOne f) (at + size) d₃ → On 0 d₀ blocked (at + size) d₃
-      third f d₃ ef e = put x (blockOne (library n ss)) d₃ (at + size) (omega (arith, room-told n ss blocks (p .least) (p .fit) .1)) (rw ef at e)
+      pub third : (d₃ : List ℕ) → stored d₂ at (blockOne (library n ss)) (at + size) d₃ → On 0 d₀ blocked (at + size) d₃
+      third d₃ e = put x (blockOne (library n ss)) d₃ (at + size) (omega (arith, room-told n ss blocks (p .least) (p .fit) .1)) e
 
       pub no-third : size ≡ 0 → On 0 d₀ blocked (at + size) d₂
       no-third z =
           let e : at + size ≡ at = omega arith in
-          third (library n ss) d₂ refl (rw (e, nil-of (blockOne (library n ss)) (sym long ∙ z)) (stored-none d₂ at))
+          third d₂ (rw (e, nil-of (blockOne (library n ss)) (sym long ∙ z)) (stored-none d₂ at))
 
   module _ (m : ℕ) (d₃ : List ℕ) (x : On 0 d₀ blocked m d₃) where
-    abbrev all : List ℕ
-    all = blocked ++ blocks
+    abbrev laid : List ℕ
+    laid = blocked ++ blocks
 
-    all-length : length all ≡ length (laidOut n ss blocks)
-    all-length =
+    laid-long : length laid ≡ length (laidOut n ss blocks)
+    laid-long =
         let l = p .least in
         let o = owner-length (ownerWidth n) (ownerOf ss) (omega arith) in
         simp length-append (omega (arith, front-length ss, laid-size n ss blocks (p .least)))
 
     pub last-fits : m + length blocks ≤ n
-    last-fits = omega (arith, x .is .0, all-length, length-append blocked blocks, laid-size n ss blocks (p .least), room-told n ss blocks (p .least) (p .fit) .1)
+    last-fits = omega (arith, x .is .0, laid-long, length-append blocked blocks, laid-size n ss blocks (p .least), room-told n ss blocks (p .least) (p .fit) .1)
 
     pub last : (d₄ : List ℕ) (r : ℕ) → stored d₃ m blocks r d₄ → d₄ ≡ unsealed n ss blocks
     unfolding unsealed
     last d₄ r e =
         let y = put x blocks d₄ r (omega (arith, e .0, last-fits)) e in
-        let z : drop (0 + length all) d₀ ≡ zeros (n - length (laidOut n ss blocks)) =
-        ap (drop (0 + length all)) (p .blank) ∙ drop-zeros (0 + length all) n ∙ ap (λ (k : ℕ). zeros (n - k)) (zero-add (length all) ∙ all-length) in
-        let s : all ++ zeros (n - length (laidOut n ss blocks)) ≡ front ss ++ (0 ∷ 0 ∷ (own n ss blocks ++ tail n ss blocks)) = simp append-assoc in
-        y .is .1 ∙ ap (λ (w : List ℕ). all ++ w) z ∙ s ∙ sym (ap₂ (λ (u v : List ℕ). u ++ (0 ∷ 0 ∷ v)) (shape-front n ss blocks) (shape-behind n ss blocks))
+        let z : drop (0 + length laid) d₀ ≡ zeros (n - length (laidOut n ss blocks)) =
+        ap (drop (0 + length laid)) (p .blank) ∙ drop-zeros (0 + length laid) n ∙ ap (λ (k : ℕ). zeros (n - k)) (zero-add (length laid) ∙ laid-long) in
+        let s : laid ++ zeros (n - length (laidOut n ss blocks)) ≡ front ss ++ (0 ∷ 0 ∷ (own n ss blocks ++ tail n ss blocks)) = simp append-assoc in
+        y .is .1 ∙ ap (λ (w : List ℕ). laid ++ w) z ∙ s ∙ sym (ap₂ (λ (u v : List ℕ). u ++ (0 ∷ 0 ∷ v)) (shape-front n ss blocks) (shape-behind n ss blocks))

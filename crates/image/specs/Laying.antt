@@ -1,14 +1,17 @@
 -- Laying elements down on a draft: what the private functions rely on. No rule of document 01 stands here: the layout is `format`'s.
 use mathlib.Core.Path.{_≡_}
 use mathlib.Core.Logic.{_⊎_}
-use Prim.Native.Nat.{ℕ, _+_, _-_, _≤_}
+use Prim.Native.Nat.{ℕ, suc, _+_, _-_, _≤_}
 use mathlib.Core.Bool.{true}
-use mathlib.Core.List.{List, [], map}
+use mathlib.Core.List.{List, [], _∷_, _++_, map}
+use lib.Dec.{eqb}
 use lib.ListN.{length, drop, getD, replicate}
-use Rattle.format.specs.Text.{text}
+use Rattle.format.specs.Bytes.{if_then_else_, bytes}
+use Rattle.format.specs.Pieces.{stored}
 use Rattle.format.specs.Fields.{isOwner, basicOwner}
-use Rattle.format.specs.Chain.{Library, libraryBytes, blockOne}
+use Rattle.format.specs.Chain.{separated}
 use Rattle.format.specs.Layout.{ownerWidth}
+use Rattle.rows.specs.Rows.{slotsAt, Row}
 
 -- ---- elements
 
@@ -21,16 +24,6 @@ pub record OwnerOrNone (o : List ℕ) : Type 0 where
   pub kind : (o ≡ []) ⊎ (isOwner o ≡ true)
   pub short : length o ≤ 255
 
--- block 1's fields, one by one
-abbrev pub fieldsOf : ℕ → List ℕ → List ℕ → ℕ → Library
-fieldsOf media item owner usage = record { media = media; item = item; owner = owner; usage = usage }
-
--- they hold elements: text, and an owner or nothing
-pub record Given (f : Library) : Type 0 where
-  pub text-item : text (f .item) ≡ true
-  pub short-item : length (f .item) ≤ 255
-  pub good-owner : OwnerOrNone (f .owner)
-
 -- ---- a draft
 
 -- n bytes 00
@@ -40,6 +33,12 @@ zeros n = replicate n 0
 -- from byte `at` on all is 00
 abbrev pub Blank : ℕ → List ℕ → Type 0
 Blank at d = drop at d ≡ zeros (length d - at)
+
+-- d is o, 00 from byte `at` on, with s stored there; m is the place behind s
+pub record On (at : ℕ) (o s : List ℕ) (m : ℕ) (d : List ℕ) : Type 0 where
+  pub blank : Blank at o
+  pub room : m ≤ length o
+  pub is : stored o at s m d
 
 -- an owner or nothing, and the owner field of d is 00
 pub record OwnerFits (o d : List ℕ) : Type 0 where
@@ -53,18 +52,34 @@ pub record IsilFits (o d : List ℕ) : Type 0 where
   pub high : 4 ≤ getD o 0 0
   pub held : basicOwner (ownerWidth (length d)) o ≡ true
 
--- block 1's fields, of which some are there, have room from byte `at` of d on
-pub record FieldsFit (f : Library) (at : ℕ) (d : List ℕ) : Type 0 where
-  pub blank : Blank at d
-  pub given : Given f
-  pub some : length (libraryBytes f) ≡ 0 → ⊥
-  pub room : at + length (libraryBytes f) ≤ length d
+-- ---- the fields of a block
 
--- and so has block 1, of this size
-pub record BlockFits (f : Library) (at size : ℕ) (d : List ℕ) : Type 0 where
+-- how many bytes fields of these lengths have with a 00 between them, and none behind the last that is there
+unfoldable pub fieldsSize : List ℕ → ℕ
+fieldsSize [] = 0
+fieldsSize (n ∷ ns) = n + (if eqb (fieldsSize ns) 0 then 0 else suc (fieldsSize ns))
+
+-- no more than a block has, none longer than an element
+pub record Few (lens : List ℕ) : Type 0 where
+  pub count : length lens ≤ 4
+  pub short : bytes lens ≡ true
+
+-- what they hold: they stand in the source or in what was made
+abbrev pub content : List ℕ → List ℕ → List ℕ → List ℕ → List ℕ
+content src made ats lens = separated (slotsAt (src ++ made) ats lens)
+
+-- they have room from byte `at` of d on
+pub record FieldsFit (src made ats lens : List ℕ) (at : ℕ) (d : List ℕ) : Type 0 where
+  pub few : Few lens
+  pub row : Row src made ats lens
   pub blank : Blank at d
-  pub given : Given f
-  pub is : size ≡ length (blockOne f)
-  pub some : size ≡ 0 → ⊥
+  pub room : at + length (content src made ats lens) ≤ length d
+
+-- and so has block 1, of this size, a byte before them
+pub record BlockFits (src made ats lens : List ℕ) (at size : ℕ) (d : List ℕ) : Type 0 where
+  pub few : Few lens
+  pub row : Row src made ats lens
+  pub blank : Blank at d
+  pub is : size ≡ 5 + length (content src made ats lens)
   pub short : size ≤ 255
   pub room : at + size ≤ length d

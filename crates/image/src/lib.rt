@@ -72,13 +72,15 @@ pub fn draft<'a>(
         return Stage::Refused(10);
     }
     let n = draft.len();
-    let owner = slot(src, made, ats, lens, owner_place(lens));
+    let item = item_place(lens);
+    let name = owner_place(lens);
+    let owner = slot(src, made, ats, lens, name);
     let usage = slot(src, made, ats, lens, 3)[0];
     let media = sizes::first_or_zero(slot(src, made, ats, lens, 4));
-    let item = slot(src, made, ats, lens, item_place(lens));
-    let name = sizes::owner_behind(owner, n);
-    let code = sizes::usage_behind(usage);
-    let size = sizes::block_size(media, item, name, code);
+    let behind = sizes::owner_behind(owner, n);
+    let places = [ats[item], ats[name], ats[3]];
+    let long = [lens[item], behind, sizes::usage_behind(usage)];
+    let size = sizes::block_size(media, &long);
     if !sizes::has_room(size, carried, n) {
         return Stage::Refused(11);
     }
@@ -88,10 +90,10 @@ pub fn draft<'a>(
         slot(src, made, ats, lens, 2),
         usage,
     );
-    basic::put_owner(draft, owner, name.len() != 0);
+    basic::put_owner(draft, owner, behind != 0);
     let at = 21 + sizes::owner_width(n);
     if size != 0 {
-        blocks::put_block(draft, at, size, media, item, name, code);
+        blocks::put_library(src, made, &places, &long, draft, at, size, media);
     }
     strings::put_bytes(draft, at + size, carried);
     Stage::Passed

@@ -1,15 +1,15 @@
 // Sizes: which owner needs block 1, how long that is, and whether all has room.
 ghost use mathlib.Core.Path.{_≡_};
 ghost use mathlib.Core.Bool.{_&&_, _||_};
-ghost use mathlib.Core.List.{[]};
-ghost use Prim.Native.Nat.{_+_, _%_, _≤_};
+ghost use mathlib.Core.List.{List};
+ghost use Prim.Native.Nat.{ℕ, _+_, _%_, _≤_};
 ghost use lib.Dec.{eqb, leb};
 ghost use lib.ListN.{length, getD};
-ghost use Rattle.format.specs.Bytes.{if_then_else_, isEmpty};
+ghost use Rattle.format.specs.Bytes.{if_then_else_, isEmpty, trim};
 ghost use Rattle.format.specs.Fields.{basicOwner};
-ghost use Rattle.format.specs.Chain.{blockOne};
+ghost use Rattle.format.specs.Chain.{separated, blockWith};
 ghost use Rattle.format.specs.Layout.{ownerWidth};
-ghost use Rattle.image.specs.Laying.{OwnerOrNone, fieldsOf, Given};
+ghost use Rattle.image.specs.Laying.{Lengths, OwnerOrNone, Few};
 
 // The width of the owner field on n bytes.
 pub fn owner_width(n: usize) -> usize
@@ -42,25 +42,22 @@ fn is_basic(owner: &[u8], width: usize) -> bool
     false
 }
 
-// The owner that block 1 holds, on a tag of n bytes: none, or one that the basic forms do not hold.
-pub fn owner_behind(owner: &[u8], n: usize) -> &[u8]
+// The length of the owner that block 1 holds, on a tag of n bytes: of one that the basic forms do not hold.
+pub fn owner_behind(owner: &[u8], n: usize) -> usize
     requires { ⌜ OwnerOrNone (now owner) × (21 ≤ n) ⌝ }
-    ensures { λ r. ⌜ now r ≡ if isEmpty (now (owner .entry)) || basicOwner (ownerWidth n) (now (owner .entry)) then [] else now (owner .entry) ⌝ }
+    ensures { λ r. ⌜ r ≡ if isEmpty (now (owner .entry)) || basicOwner (ownerWidth n) (now (owner .entry)) then 0 else length (now (owner .entry)) ⌝ }
 {
     if is_basic(owner, owner_width(n)) {
-        return &owner[0..0];
-    }
-    owner
-}
-
-// The usage byte that block 1 holds: 0 where the sub qualifier is 0.
-pub fn usage_behind(usage: u8) -> u8
-    ensures { λ r. ⌜ r ≡ if eqb (usage % 16) 0 then 0 else usage ⌝ }
-{
-    if usage % 16 == 0 {
         return 0;
     }
-    usage
+    owner.len()
+}
+
+// The length of the usage byte that block 1 holds: there is none where the sub qualifier is 0.
+pub fn usage_behind(usage: u8) -> usize
+    ensures { λ r. ⌜ r ≡ if eqb (usage % 16) 0 then 0 else 1 ⌝ }
+{
+    if usage % 16 == 0 { 0 } else { 1 }
 }
 
 // The first byte, 0 where there is none.
@@ -73,20 +70,14 @@ pub fn first_or_zero(bytes: &[u8]) -> u8
     bytes[0]
 }
 
-// The length of block 1: the last of its fields that is there decides.
-pub fn block_size(media: u8, item: &[u8], owner: &[u8], usage: u8) -> usize
-    requires { ⌜ Given (fieldsOf media (now item) (now owner) usage) ⌝ }
-    ensures { λ r. ⌜ r ≡ length (blockOne (fieldsOf media (now (item .entry)) (now (owner .entry)) usage)) ⌝ }
+// The length of block 1 with fields of these lengths: nothing, where there is neither a media byte nor a field.
+pub fn block_size(media: u8, lens: &[usize]) -> usize
+    requires { ⌜ Few (now lens) ⌝ }
+    ensures { λ r. ⌜ ((fs : List (List ℕ)) → Lengths fs (now (lens .entry)) → r ≡ length (blockWith 1 (trim media (separated fs)))) ⌝ }
 {
-    let both = item.len() + owner.len();
-    if usage != 0 {
-        return both + 8;
-    }
-    if owner.len() != 0 {
-        return both + 6;
-    }
-    if item.len() != 0 {
-        return both + 5;
+    let fields = crate::blocks::fields_size(lens);
+    if fields != 0 {
+        return fields + 5;
     }
     if media != 0 {
         return 5;

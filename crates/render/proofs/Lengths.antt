@@ -77,13 +77,3 @@ pub heads-carried : (at : ℕ) (bs : List (List ℕ)) → joined (carriedHeads a
 unfolding carriedHeads heads carriedEntries joined le16
 heads-carried at [] = refl
 heads-carried at (b ∷ bs) = ap (λ (r : List ℕ). headOf at 255 (length b) ++ r) (heads-carried (at + length b) bs)
-
--- ---- bytes
-
--- the bytes of the element at place k, and of those behind it
-pub row-turn : {src made ats lens : List ℕ} (k : ℕ) → Row src made ats lens → k < length ats → let s : List ℕ = src ++ made in
-    Stands src made (getD ats k 0) (getD lens k 0) × (slotsAt s (drop k ats) (drop k lens) ≡ part (getD ats k 0) (getD lens k 0) s ∷ slotsAt s (drop (k + 1) ats) (drop (k + 1) lens))
-unfolding slotsAt
-row-turn {src} {made} {ats} {lens} k r h =
-    let l : k < length lens = omega (arith, row-lengths src made ats lens r) in
-    (row-at src made ats lens r k h, rw (add-one, drop-cons ats k 0 h, drop-cons lens k 0 l))

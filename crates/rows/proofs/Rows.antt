@@ -4,9 +4,10 @@ use mathlib.Core.Logic.{inl, inr}
 use Prim.Native.Nat.{ℕ, zero, suc, _+_, _-_, _≤_, _<_}
 use native.Mathlib.Nat.{le-of-suc-le-suc, not-suc-le-zero}
 use native.Mathlib.Omega.{arith}
+use native.Mathlib.Numerals.{add-one}
 use mathlib.Core.List.{List, [], _∷_, _++_, map, append-assoc}
 use lib.ListN.{length, getD, take, drop, set, length-append, length-drop}
-use lib.Seq.{length-take-le, take-append-le, drop-append-le}
+use lib.Seq.{length-take-le, take-append-le, drop-append-le, drop-cons}
 use mathlib.Core.Bool.{true}
 use borrow.Author.Tests.{le-leb}
 use Rattle.format.specs.Bytes.{all, bytes, part}
@@ -40,6 +41,14 @@ slot-at s [] lens e k h = absurd (not-suc-le-zero h)
 slot-at s (at ∷ ats) [] e k h = absurd (omega (arith, e))
 slot-at s (at ∷ ats) (len ∷ lens) e zero h = refl
 slot-at s (at ∷ ats) (len ∷ lens) e (suc k) h = slot-at s ats lens (omega (arith, e)) k (le-of-suc-le-suc h)
+
+-- the bytes of the element at place k, and of those behind it
+pub row-turn : {src made ats lens : List ℕ} (k : ℕ) → Row src made ats lens → k < length ats → let s : List ℕ = src ++ made in
+    Stands src made (getD ats k 0) (getD lens k 0) × (slotsAt s (drop k ats) (drop k lens) ≡ part (getD ats k 0) (getD lens k 0) s ∷ slotsAt s (drop (k + 1) ats) (drop (k + 1) lens))
+unfolding slotsAt
+row-turn {src} {made} {ats} {lens} k r h =
+    let l : k < length lens = omega (arith, row-lengths src made ats lens r) in
+    (row-at src made ats lens r k h, rw (add-one, drop-cons ats k 0 h, drop-cons lens k 0 l))
 
 -- what stands is as long as the row says
 pub standing-length : (src made : List ℕ) (at len : ℕ) → Stands src made at len → length (part at len (src ++ made)) ≡ len

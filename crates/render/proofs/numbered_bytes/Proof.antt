@@ -9,8 +9,8 @@ use lib.ListN.{length, drop, drop-of-length-le}
 use Rattle.format.specs.Bytes.{joined}
 use Rattle.format.proofs.Pieces.{stored-none}
 use Rattle.rows.specs.Rows.{slotsAt}
+use Rattle.rows.proofs.Rows.{row-turn}
 use Rattle.render.proofs.Storing.{Storing, storing-start, storing-end, next-room, storing-next}
-use Rattle.render.proofs.Lengths.{row-turn}
 use Rattle.render.proofs.numbered_bytes.Statement.{statement}
 use Rattle.render.proofs.numbered_bytes.Tie as tie
 

@@ -10,8 +10,8 @@ use Rattle.format.specs.Bytes.{if_then_else_, padWith, pad}
 use Rattle.format.specs.Fields.{marker, long, itemField}
 use Rattle.format.specs.Layout.{firstByte}
 use Rattle.format.specs.Pieces.{stored}
-use Rattle.image.specs.Laying.{Blank}
-use Rattle.image.proofs.Drafts.{On, start, put, put-byte, gap, ends}
+use Rattle.image.specs.Laying.{Blank, On}
+use Rattle.image.proofs.Drafts.{start, put, put-byte, gap, ends}
 use Rattle.image.proofs.basic.put_front.Statement.{statement}
 use Rattle.image.proofs.basic.put_front.Tie as tie
 

@@ -9,8 +9,8 @@ use lib.Seq.{take-all}
 use borrow.Author.Needs.{needs}
 use Rattle.format.specs.Fields.{packed}
 use Rattle.format.specs.Pieces.{stored}
-use Rattle.image.specs.Laying.{IsilFits}
-use Rattle.image.proofs.Drafts.{On, start, put, put-byte, ends}
+use Rattle.image.specs.Laying.{IsilFits, On}
+use Rattle.image.proofs.Drafts.{start, put, put-byte, ends}
 use Rattle.image.proofs.OwnerForms.{Prefixed, prefixed-facts, high-isil, one-capital, held-short, held-two}
 use Rattle.image.proofs.basic.put_isil.Statement.{statement}
 use Rattle.image.proofs.basic.put_isil.Tie as tie

@@ -12,8 +12,8 @@ use Rattle.format.specs.Layout.{ownerWidth}
 use Rattle.format.specs.Pieces.{stored}
 use Rattle.format.proofs.Tests.{not-t, not-f, or-false}
 use Rattle.format.proofs.Strings.{nil-of, not-empty}
-use Rattle.image.specs.Laying.{OwnerFits}
-use Rattle.image.proofs.Drafts.{On, start, put, put-byte, gap, ends}
+use Rattle.image.specs.Laying.{OwnerFits, On}
+use Rattle.image.proofs.Drafts.{start, put, put-byte, gap, ends}
 use Rattle.image.proofs.OwnerForms.{low-alternate, alternate-packed, held-short}
 use Rattle.image.proofs.basic.put_owner.Statement.{statement}
 use Rattle.image.proofs.basic.put_owner.Tie as tie

@@ -1,143 +1,107 @@
--- `image::blocks::put_fields` meets its contract: each field behind a 00, and no 00 behind the last that is there.
-use mathlib.Core.Path.{_≡_, refl, sym, ap, _∙_}
-use mathlib.Core.Logic.{_⊎_, inl, inr, ⊎-elim}
-use Prim.Native.Nat.{ℕ, zero, suc, _+_, _≤_, _<_}
+-- `image::blocks::put_fields` meets its contract: the fields before place k are laid down, and the next belongs at `to`.
+use mathlib.Core.Path.{_≡_, refl, sym, _∙_}
+use mathlib.Core.Logic.{⊎-elim}
+use Prim.Native.Nat.{ℕ, _+_, _-_, _*_, _≤_, _<_}
 use native.Mathlib.Omega.{arith}
-use mathlib.Core.List.{List, [], _∷_}
-use lib.ListN.{length, set, length-set}
+use mathlib.Core.List.{List, _∷_, _++_}
+use lib.ListN.{length, getD, drop, drop-of-length-le}
 use borrow.Author.Needs.{needs}
-use borrow.Author.Tests.{eqb-true, eqb-false}
-use Rattle.format.specs.Chain.{Library, libraryBytes}
+use Rattle.format.specs.Bytes.{part}
 use Rattle.format.specs.Pieces.{stored}
-use Rattle.format.proofs.Tests.{not-t, not-f}
-use Rattle.image.specs.Laying.{fieldsOf, FieldsFit}
-use Rattle.image.proofs.Drafts.{On, start, on-length, put, put-byte, gap, ends}
-use Rattle.image.proofs.BlockBytes.{twoFields, threeFields, three-length, four-length, with-usage, with-owner, without-owner, bytes-least}
+use Rattle.format.proofs.Tests.{bytes-at}
+use Rattle.format.proofs.Strings.{nil-of}
+use Rattle.format.proofs.Pieces.{stored-none, stored-length}
+use Rattle.rows.specs.Rows.{slotsAt, Stands}
+use Rattle.rows.proofs.Rows.{row-lengths, row-turn, standing-length}
+use Rattle.image.specs.Laying.{content}
+use Rattle.image.proofs.Contents.{Laying, laying-start, laying-end, field-fits, laying-next}
 use Rattle.image.proofs.blocks.put_fields.Statement.{statement}
 use Rattle.image.proofs.blocks.put_fields.Tie as tie
 
--- an owner is there, or a usage byte behind its place
-abbrev Three : Library → Type 0
-Three f = (length (f .owner) ≡ 0 → ⊥) ⊎ (f .usage ≡ 0 → ⊥)
+abbrev Inv-loop : tie.InvT-loop
+Inv-loop src made ats lens draft₀ at to₀ k₀ draft to k =
+    (k ≤ length lens) × (to ≤ at + 256 * k) × Laying draft₀ at (content src made ats lens) draft to (slotsAt (src ++ made) (drop k ats) (drop k lens))
 
-module _ {f : Library} {at : ℕ} {d : List ℕ} (p : FieldsFit f at d) where
-  least : at + suc (length (f .item)) ≤ length d
-  least = omega (arith, p .room, bytes-least f (p .given) (p .some))
+abbrev μ-loop : tie.MeasureT-loop
+μ-loop src made ats lens draft₀ at to₀ k₀ draft to k = length lens - k
 
-  begun : On at d (f .media ∷ []) (at + 1) (set d at (f .media))
-  begun = let l = least in put-byte (start at d (omega arith) (p .blank)) (f .media) (omega arith)
+abbrev start : tie.In-loop Inv-loop μ-loop → tie.Start Inv-loop μ-loop
+start c = c .before .before .before .before .before .before .before
 
-  -- what is put down is all
-  ended : (s d′ : List ℕ) (m : ℕ) → libraryBytes f ≡ s → On at d s m d′ → stored d at (libraryBytes f) (at + length (libraryBytes f)) d′
-  ended s d′ m e o = ends o (libraryBytes f) _ (sym e) (o .is .0 ∙ ap (λ (x : List ℕ). at + length x) (sym e))
+-- the field at place k
+module _ (c : tie.In-loop Inv-loop μ-loop) where
+  abbrev a : tie.Start Inv-loop μ-loop
+  a = start c
 
-  last-owner : Three f → f .usage ≡ 0 → libraryBytes f ≡ threeFields f
-  last-owner t u = with-owner f (p .given) u (⊎-elim (λ n. n) (λ n. absurd (n u)) t)
+  abbrev k : ℕ
+  k = c .before .loop .k
 
-  owner-room : Three f → at + length (f .item) + length (f .owner) + 2 ≤ length d
-  owner-room t = by-usage (f .usage) refl
-    where
-      by-usage : (u : ℕ) → f .usage ≡ u → at + length (f .item) + length (f .owner) + 2 ≤ length d
-      by-usage zero e = omega (arith, p .room, three-length f, ap length (last-owner t e))
-      by-usage (suc u) e = omega (arith, p .room, four-length f, ap length (with-usage f (λ z. omega arith)))
+  abbrev to : ℕ
+  to = c .before .loop .to
 
-  module _ (i : ℕ) (d₁ : List ℕ) (e₁ : stored (set d at (f .media)) (at + 1) (f .item) i d₁) where
-    second : On at d (twoFields f) i d₁
-    second = put begun (f .item) d₁ i (omega (arith, least, e₁ .0)) e₁
+  abbrev len : ℕ
+  len = getD (a .args .lens .now) k 0
 
-    item-ended : f .usage ≡ 0 → length (f .owner) ≡ 0 → stored d at (libraryBytes f) (at + length (libraryBytes f)) d₁
-    item-ended u n = ended (twoFields f) d₁ i (without-owner f (p .given) (p .some) u n) second
+  abbrev field : List ℕ
+  field = part (getD (a .args .ats .now) k 0) len (a .args .src .now ++ a .args .made .now)
 
-    owner-fits : Three f → i + 1 + length (f .owner) ≤ length d₁
-    owner-fits t = omega (arith, owner-room t, on-length second, e₁ .0)
+  inside : k < length (a .args .ats .now)
+  inside = omega (arith, row-lengths _ _ _ _ (a .pre .row), c .loop-test .taken)
 
-    module _ (t : Three f) (j : ℕ) (d₂ : List ℕ) (e₂ : stored d₁ (i + 1) (f .owner) j d₂) where
-      third : On at d (threeFields f) j d₂
-      third = let l = owner-room t in let k = e₁ .0 in put (gap second 1 (omega arith)) (f .owner) d₂ j (omega (arith, e₂ .0)) e₂
+  small : len ≤ 255
+  small = bytes-at k (a .args .lens .now) (a .pre .few .short)
 
-      owner-ended : f .usage ≡ 0 → stored d at (libraryBytes f) (at + length (libraryBytes f)) d₂
-      owner-ended u = ended (threeFields f) d₂ j (last-owner t u) third
+  stands : Stands (a .args .src .now) (a .args .made .now) (getD (a .args .ats .now) k 0) len
+  stands = row-turn k (a .pre .row) inside .0
 
-      module _ (n : f .usage ≡ 0 → ⊥) where
-        inside : j + 1 < length d
-        inside = omega (arith, p .room, four-length f, ap length (with-usage f n), e₁ .0, e₂ .0)
+  long : length field ≡ len
+  long = standing-length (a .args .src .now) (a .args .made .now) (getD (a .args .ats .now) k 0) len stands
 
-        usage-ended : stored d at (libraryBytes f) (at + length (libraryBytes f)) (set d₂ (j + 1) (f .usage))
-        usage-ended = let l = inside in ended _ _ _ (with-usage f n) (put-byte (gap third 1 (omega arith)) (f .usage) l)
+  laying : Laying (a .args .draft .now) (a .args .at) (content (a .args .src .now) (a .args .made .now) (a .args .ats .now) (a .args .lens .now)) (c .before .loop .draft) to
+      (field ∷ slotsAt (a .args .src .now ++ a .args .made .now) (drop (k + 1) (a .args .ats .now)) (drop (k + 1) (a .args .lens .now)))
+  laying = rw (row-turn k (a .pre .row) inside .1) at (c .before .loop .inv .2)
 
-slice-write-draft : tie.Need-slice-write-draft
-slice-write-draft c = search needs
+  fits : (len ≡ 0 → ⊥) → to + length field ≤ length (c .before .loop .draft)
+  fits n = field-fits laying (λ z. n (sym long ∙ z))
 
-add-put-bytes : tie.Need-add-put-bytes
-add-put-bytes c = search needs
+  -- it is laid down, or has no bytes
+  again : (d : List ℕ) → length d ≡ length (c .before .loop .draft) → stored (c .before .loop .draft) to field (to + length field) d
+      → Inv-loop (a .args .src .now) (a .args .made .now) (a .args .ats .now) (a .args .lens .now) (a .args .draft .now) (a .args .at) (a .args .at) 0 d (to + (len + 1)) (k + 1)
+  again d same e =
+      let on : to + length field + 1 ≡ to + (len + 1) = omega (arith, long) in
+      (omega (arith, c .loop-test .taken), omega (arith, small, c .before .loop .inv .1), rw on at (laying-next laying d same e))
 
-put-bytes-requires : tie.Need-put-bytes-requires
-put-bytes-requires c κs = simp length-set (omega (arith, least (c .before .before .before .before .pre)))
+piece-requires : tie.Need-piece-requires Inv-loop μ-loop
+piece-requires c κs = stands (c .before .before .before .before)
 
-add-put-bytes-2 : tie.Need-add-put-bytes-2
-add-put-bytes-2 c = search needs
+put-bytes-requires : tie.Need-put-bytes-requires Inv-loop μ-loop
+put-bytes-requires c κs =
+    let d = c .before .before .before .before .before in
+    rw (c .piece .ensures) (fits d (c .before .before .before .if1 .taken))
 
--- what is known where the item is put down, and where the owner is
-abbrev at-start : tie.After-put-bytes → tie.Start
-at-start c = c .before .before .before .before .before
+add-to : tie.Need-add-to-2 Inv-loop μ-loop
+add-to c =
+    let d = c .before .before in
+    let p = start d .pre in omega (arith, small d, d .before .loop .inv .1, d .before .loop .inv .0, p .few .count, p .room)
 
-abbrev at-item : tie.Joined1 → tie.After-put-bytes
-at-item c = c .before .before .before
+loop-again : tie.Need-loop-again Inv-loop μ-loop
+loop-again c =
+    let d = c .before .before in
+    let draft = d .before .loop .draft in
+    ⊎-elim
+    (λ w. let e = rw (w .3 .ensures) at (w .4 .ensures) in rw (w .7) (again d _ (stored-length draft (field d) _ (to d) _ (fits d (w .0 .taken)) e) (refl, e .1)))
+    (λ w. rw (w .1) (again d draft refl (rw (nil-of (field d) (long d ∙ w .0 .left)) (refl, stored-none draft (to d) .1))))
+    (c .if1 .came)
 
-three : (c : tie.Joined1) → let a = at-start (at-item c) .args in Three (fieldsOf (a .media) (a .item .now) (a .owner .now) (a .usage))
-three c = ⊎-elim (λ w. inl (w .taken)) (λ w. inr (eqb-false _ 0 (not-t _ (w .1 .taken)))) (c .if1 .came)
-
-put-bytes-requires-2 : tie.Need-put-bytes-requires-2
-put-bytes-requires-2 c κs = let j = c .before in let i = at-item j in owner-fits (at-start i .pre) _ _ (i .put-bytes .ensures) (three j)
-
-add-draft : tie.Need-add-draft
-add-draft c = search needs
-
-slice-write-draft-2 : tie.Need-slice-write-draft-2
-slice-write-draft-2 c =
-    let o = c .before .before .before in
-    let j = o .before .before in
-    let i = at-item j in
-    omega (arith, inside (at-start i .pre) _ _ (i .put-bytes .ensures) (three j) _ _ (o .put-bytes2 .ensures) (c .if3 .taken), on-length (third (at-start i .pre) _ _ (i .put-bytes .ensures) (three j) _ _ (o .put-bytes2 .ensures)))
-
-same-length : tie.Need-same-length
-same-length c = simp length-set (c .before .before .draft2 .given ∙ simp length-set at (c .before .before .before .before .before .before .before .draft .given))
-
-returns : tie.Need-returns
+returns : tie.Need-returns Inv-loop μ-loop
+unfolding slotsAt
 returns c =
-    let o = c .before .before .before in
-    let j = o .before .before in
-    let i = at-item j in usage-ended (at-start i .pre) _ _ (i .put-bytes .ensures) (three j) _ _ (o .put-bytes2 .ensures) (c .if3 .taken)
-
-same-length-2 : tie.Need-same-length-2
-same-length-2 c = c .before .before .draft2 .given ∙ simp length-set at (c .before .before .before .before .before .before .before .draft .given)
-
-returns-2 : tie.Need-returns-2
-returns-2 c =
-    let o = c .before .before .before in
-    let j = o .before .before in
-    let i = at-item j in owner-ended (at-start i .pre) _ _ (i .put-bytes .ensures) (three j) _ _ (o .put-bytes2 .ensures) (c .if3 .left)
-
-same-length-3 : tie.Need-same-length-3
-same-length-3 c = simp length-set at (c .before .before .before .draft .given)
-
-returns-3 : tie.Need-returns-3
-returns-3 c = let i = c .before .before .before .before in item-ended (at-start i .pre) _ _ (i .put-bytes .ensures) (eqb-true _ 0 (not-f _ (c .if2 .left))) (c .before .if1 .left)
+    let s = c .before .before .before .before .before .before .before in
+    laying-end (rw (drop-of-length-le (s .args .ats .now) {i = c .before .loop .k} (omega (arith, row-lengths _ _ _ _ (s .pre .row), c .loop-test .left))) at (c .before .loop .inv .2))
 
 pub put-fields-spec : {M : Type 1} → statement M
 put-fields-spec =
     tie.close
-    (tie.spec
-    slice-write-draft
-    add-put-bytes
-    put-bytes-requires
-    add-put-bytes-2
-    put-bytes-requires-2
-    add-draft
-    slice-write-draft-2
-    same-length
-    returns
-    same-length-2
-    returns-2
-    same-length-3
-    returns-3)
+    (tie.spec Inv-loop μ-loop (λ c. (omega arith, omega arith, laying-start _ _ _ (c .before .before .before .before .before .pre .blank) (c .before .before .before .before .before .pre .room)))
+    (λ c. search needs) (λ c. search needs) (λ c. search needs) (λ c. inside (c .before .before .before .before)) piece-requires put-bytes-requires
+    (λ c. omega (arith, small (c .before .before))) add-to (λ c. search needs) (λ c. search needs) loop-again (λ c. c .before .loop .inv .2 .same) returns)

@@ -1,61 +1,47 @@
--- `image::sizes::block_size` meets its contract: each way out has its last field.
-use mathlib.Core.Path.{sym, ap}
+-- `image::sizes::block_size` meets its contract: by the size of its fields, or else by its media byte.
+use mathlib.Core.Path.{_≡_, refl, sym, ap, _∙_}
+use Prim.Native.Nat.{ℕ, suc, _+_}
 use native.Mathlib.Omega.{arith}
+use mathlib.Core.List.{List, [], _∷_}
 use lib.ListN.{length}
 use borrow.Author.Needs.{needs}
-use Rattle.format.specs.Chain.{Library}
-use Rattle.image.specs.Laying.{fieldsOf}
-use Rattle.image.proofs.BlockBytes.{three-length, four-length, with-usage, with-owner, with-nothing, with-two, no-block, block-length}
+use Rattle.format.specs.Bytes.{trim}
+use Rattle.format.specs.Chain.{separated, blockWith}
+use Rattle.format.proofs.Blocks.{sealed-length}
+use Rattle.format.proofs.Strings.{nil-of, trim-some, trim-other}
+use Rattle.image.specs.Laying.{Lengths, fieldsSize}
+use Rattle.image.proofs.Contents.{separated-size}
 use Rattle.image.proofs.sizes.block_size.Statement.{statement}
 use Rattle.image.proofs.sizes.block_size.Tie as tie
 
-abbrev f : tie.Start → Library
-f c = fieldsOf (c .args .media) (c .args .item .now) (c .args .owner .now) (c .args .usage)
+-- a block that has something
+some : {p : List ℕ} (x : ℕ) (r : List ℕ) → p ≡ x ∷ r → length (blockWith 1 p) ≡ length r + 5
+unfolding blockWith
+some x r e = rw e (sealed-length 1 (x ∷ r) ∙ omega arith)
 
-add-both : tie.Need-add-both
-add-both c = search needs
+-- the fields have this size
+module _ {lens : List ℕ} (n : ℕ) (e : n ≡ fieldsSize lens) (fs : List (List ℕ)) (l : Lengths fs lens) where
+  long : length (separated fs) ≡ n
+  long = separated-size fs ∙ ap fieldsSize l ∙ sym e
 
-add-result : tie.Need-add-result
-add-result c = search needs
+  fielded : (m : ℕ) → (n ≡ 0 → ⊥) → n + 5 ≡ length (blockWith 1 (trim m (separated fs)))
+  fielded m z = sym (some m (separated fs) (trim-some m (separated fs) (λ h. z (sym long ∙ h))) ∙ ap (λ (k : ℕ). k + 5) long)
+
+  alone : (m : ℕ) → n ≡ 0 → (m ≡ 0 → ⊥) → 5 ≡ length (blockWith 1 (trim m (separated fs)))
+  alone m z h = sym (some m (separated fs) (trim-other m (separated fs) h) ∙ omega (arith, long))
+
+  nothing : (m : ℕ) → n ≡ 0 → m ≡ 0 → 0 ≡ length (blockWith 1 (trim m (separated fs)))
+  unfolding blockWith trim
+  nothing m z h = rw (h, nil-of (separated fs) (long ∙ z))
 
 returns : tie.Need-returns
-returns c = let l = f (c .before) in omega (arith, four-length l, block-length l (with-usage l (c .if1 .taken)))
-
-add-result-2 : tie.Need-add-result-2
-add-result-2 c = search needs
+returns c fs l = let s = c .before in fielded _ (s .fields-size .ensures .0) fs l _ (c .if1 .taken)
 
 returns-2 : tie.Need-returns-2
-returns-2 c =
-    let s = c .before .before in
-    let l = f s in omega (arith, three-length l, block-length l (with-owner l (s .pre) (c .before .if1 .left) (c .if2 .taken)))
-
-add-result-3 : tie.Need-add-result-3
-add-result-3 c = search needs
+returns-2 c fs l = let s = c .before .before in alone _ (s .fields-size .ensures .0) fs l _ (c .before .if1 .left) (c .if2 .taken)
 
 returns-3 : tie.Need-returns-3
-returns-3 c = let s = c .before .before .before in let o = c .before .if2 .left in omega (arith, block-length (f s) (with-two (f s) (s .pre) (c .before .before .if1 .left) o (λ i m. c .if3 .taken i)))
-
-returns-4 : tie.Need-returns-4
-returns-4 c =
-    let s = c .before .before .before .before in
-    let h = c .before .if3 .left in
-    omega (arith, block-length (f s) (with-two (f s) (s .pre) (c .before .before .before .if1 .left) (c .before .before .if2 .left) (λ i m. c .if4 .taken m)))
-
-returns-5 : tie.Need-returns-5
-returns-5 c =
-    let s = c .before .before .before .before in
-    sym (ap length (no-block (f s) (with-nothing (f s) (s .pre) (c .before .before .before .if1 .left) (c .before .before .if2 .left) (c .before .if3 .left) (c .if4 .left))))
+returns-3 c fs l = let s = c .before .before in nothing _ (s .fields-size .ensures .0) fs l _ (c .before .if1 .left) (c .if2 .left)
 
 pub block-size-spec : {M : Type 1} → statement M
-block-size-spec =
-    tie.close
-    (tie.spec
-    add-both
-    add-result
-    returns
-    add-result-2
-    returns-2
-    add-result-3
-    returns-3
-    returns-4
-    returns-5)
+block-size-spec = tie.close (tie.spec (λ c κs. search needs) (λ c. omega (arith, c .before .fields-size .ensures .1)) returns returns-2 returns-3)

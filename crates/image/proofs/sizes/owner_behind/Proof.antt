@@ -2,7 +2,8 @@
 use mathlib.Core.Path.{_≡_, sym, ap, _∙_}
 use Prim.Native.Nat.{ℕ}
 use mathlib.Core.Bool.{Bool, true, false, _||_}
-use mathlib.Core.List.{List, []}
+use mathlib.Core.List.{List}
+use lib.ListN.{length}
 use borrow.Author.Needs.{needs}
 use Rattle.format.specs.Bytes.{if_then_else_, isEmpty}
 use Rattle.format.specs.Fields.{basicOwner}
@@ -10,8 +11,8 @@ use Rattle.image.proofs.sizes.owner_behind.Statement.{statement}
 use Rattle.image.proofs.sizes.owner_behind.Tie as tie
 
 -- by what the test for a basic form came to
-told : (v w : ℕ) (o : List ℕ) (r t : Bool) → w ≡ v → r ≡ isEmpty o || basicOwner w o → r ≡ t → (if t then [] else o) ≡ (if isEmpty o || basicOwner v o then [] else o)
-told v w o r t ew er et = ap (λ (b : Bool). if b then [] else o) (sym et ∙ er ∙ ap (λ (x : ℕ). isEmpty o || basicOwner x o) ew)
+told : (v w : ℕ) (o : List ℕ) (r t : Bool) → w ≡ v → r ≡ isEmpty o || basicOwner w o → r ≡ t → (if t then 0 else length o) ≡ (if isEmpty o || basicOwner v o then 0 else length o)
+told v w o r t ew er et = ap (λ (b : Bool). if b then 0 else length o) (sym et ∙ er ∙ ap (λ (x : ℕ). isEmpty o || basicOwner x o) ew)
 
 owner-width-requires : tie.Need-owner-width-requires
 owner-width-requires c κs = search needs
@@ -19,19 +20,10 @@ owner-width-requires c κs = search needs
 is-basic-requires : tie.Need-is-basic-requires
 is-basic-requires c κs = search needs
 
-sub-result : tie.Need-sub-result
-sub-result c = search needs
-
-part-result-start : tie.Need-part-result-start
-part-result-start c = search needs
-
-part-result-end : tie.Need-part-result-end
-part-result-end c = search needs
-
 returns : tie.Need-returns
 returns c =
-    let t = c .before .before in
-    told _ _ (t .before .before .before .args .owner .now) _ true (t .before .owner-width .ensures) (t .is-basic .ensures) (c .before .if1 .taken)
+    let t = c .before in
+    told _ _ (t .before .before .before .args .owner .now) _ true (t .before .owner-width .ensures) (t .is-basic .ensures) (c .if1 .taken)
 
 returns-2 : tie.Need-returns-2
 returns-2 c =
@@ -39,4 +31,4 @@ returns-2 c =
     told _ _ (t .before .before .before .args .owner .now) _ false (t .before .owner-width .ensures) (t .is-basic .ensures) (c .if1 .left)
 
 pub owner-behind-spec : {M : Type 1} → statement M
-owner-behind-spec = tie.close (tie.spec owner-width-requires is-basic-requires sub-result part-result-start part-result-end returns returns-2)
+owner-behind-spec = tie.close (tie.spec owner-width-requires is-basic-requires returns returns-2)
