@@ -5,14 +5,14 @@ use Prim.Native.Nat.{ℕ, zero, suc, _+_, _-_, _%_, _≤_, _<_}
 use native.Mathlib.Nat.{zero-add}
 use native.Mathlib.Omega.{arith}
 use mathlib.Core.Bool.{Bool, true, false, not, _&&_, _||_}
-use mathlib.Core.List.{List, [], _∷_, _++_, append-assoc}
+use mathlib.Core.List.{List, [], _∷_, _++_, map, append-assoc}
 use lib.Dec.{eqb, leb}
 use lib.ListN.{length, drop, getD, length-append, List·getD-map}
 use borrow.Author.Tests.{eqb-false, eq-eqb, ne-eqb, le-leb, lt-leb, leb-true}
 use Rattle.format.specs.Bytes.{if_then_else_, isEmpty, all, le16, part, trim}
 use Rattle.format.specs.Text.{text}
 use Rattle.format.specs.Fields.{long, itemField, basicOwner, ownerField}
-use Rattle.format.specs.Chain.{sealed, blockWith, libraryFields, blockOne}
+use Rattle.format.specs.Chain.{separated, sealed, blockWith, Library, libraryFields, libraryBytes, blockOne}
 use Rattle.format.specs.Elements.{numbers, placeIn, place, slot, shape, value, clash}
 use Rattle.format.specs.Layout.{ownerWidth, ownerOf, usageOf, library, firstByte, front, basic, laidOut, hasLayout}
 use Rattle.format.specs.Pieces.{stored}
@@ -25,7 +25,7 @@ use Rattle.format.proofs.Layouts.{owner-length, basic-length}
 use Rattle.format.proofs.Pieces.{stored-none}
 use Rattle.rows.specs.Rows.{slotsAt, Stands, Row, none, next}
 use Rattle.rows.proofs.Rows.{row-lengths, slots-length, row-at, slot-at, lengths-are, row-short}
-use Rattle.image.specs.Laying.{Lengths, OwnerOrNone, Few, zeros, On}
+use Rattle.image.specs.Laying.{Lengths, OwnerOrNone, content, Few, zeros, On}
 use Rattle.image.specs.Drafting.{Draftable, unsealed}
 use Rattle.image.proofs.Drafts.{drop-zeros, blank-all, start, on-length, put, gap}
 use Rattle.image.proofs.Laws.{front-length, own, tail, shape-front, shape-behind}
@@ -65,6 +65,12 @@ module _ (ss : List (List ℕ)) (lens : List ℕ) (s : Lengths ss lens) where
 either : (P : List ℕ → Type 0) (t : Bool) (x y : List ℕ) → P x → P y → P (if t then x else y)
 either P true x y p q = p
 either P false x y p q = q
+
+-- these are block 1's fields
+pub record Fielded (src made places sizes : List ℕ) (f : Library) : Type 0 where
+  pub row : Row src made places sizes
+  pub few : Few sizes
+  pub are : slotsAt (src ++ made) places sizes ≡ libraryFields f
 
 at-most : (t : Bool) (n : ℕ) → (if t then 0 else n) ≤ n
 at-most true n = omega arith
@@ -139,10 +145,10 @@ module _ {src made ats lens d : List ℕ} (p : Draftable src made ats lens d) wh
     usage-some : code ≤ 1
     usage-some = omega (arith, ec, at-most (eqb (usageOf ss % 16) 0) 1)
 
-    pub fields-row : Row src made places sizes
+    fields-row : Row src made places sizes
     fields-row = next (stands item hi .1) (next (stands-less name behind hn owner-some) (next (stands-less 3 code (omega arith) (omega (arith, usage-some, usage-long))) none))
 
-    pub fields-few : Few sizes
+    fields-few : Few sizes
     unfolding all
     fields-few = record {
       count = omega arith;
@@ -167,9 +173,9 @@ module _ {src made ats lens d : List ℕ} (p : Draftable src made ats lens d) wh
             let some : usageOf ss ≡ 0 → ⊥ = λ h. eqb-false (usageOf ss % 16) 0 z (rw h) in
             rw (e ∙ sym usage-long) (slot-is 3 (omega arith) ∙ value-usage (getD ss 3 []) (value-at 3 (omega arith))) ∙ sym (trim-other (usageOf ss) [] some)
 
-    pub fields-are : slotsAt (src ++ made) places sizes ≡ libraryFields (library n ss)
+    pub fields-found : Fielded src made places sizes (library n ss)
     unfolding slotsAt
-    fields-are = rw (slot-is item hi ∙ ei, owner-field, usage-field)
+    fields-found = record { row = fields-row; few = fields-few; are = rw (slot-is item hi ∙ ei, owner-field, usage-field) }
 
 -- ---- block 1
 
@@ -183,11 +189,29 @@ behind-told w o behind e = ap (λ (k : ℕ). not (eqb k 0)) e ∙ ap not (go (ba
     go false (x ∷ s) = ne-eqb (suc (length s)) 0 (λ z. omega arith)
 
 -- with a byte before its fields, if it has anything
-pub block-some : (m : ℕ) (r : List ℕ) → (length (blockWith 1 (trim m r)) ≡ 0 → ⊥) → (blockWith 1 (trim m r) ≡ sealed 1 (m ∷ r)) × (length (blockWith 1 (trim m r)) ≡ 5 + length r)
+block-some : (m : ℕ) (r : List ℕ) → (length (blockWith 1 (trim m r)) ≡ 0 → ⊥) → (blockWith 1 (trim m r) ≡ sealed 1 (m ∷ r)) × (length (blockWith 1 (trim m r)) ≡ 5 + length r)
 unfolding blockWith trim
 block-some zero [] n = absurd (n refl)
 block-some zero (y ∷ r) n = (refl, sealed-length 1 (zero ∷ y ∷ r) ∙ omega arith)
 block-some (suc m) r n = (refl, sealed-length 1 (suc m ∷ r) ∙ omega arith)
+
+-- its size, by the code, and its bytes
+module _ {src made places sizes : List ℕ} {f : Library} (h : Fielded src made places sizes f) (media size : ℕ) (em : media ≡ f .media)
+    (es : (fs : List (List ℕ)) → Lengths fs sizes → size ≡ length (blockWith 1 (trim media (separated fs)))) where
+  pub size-is : size ≡ length (blockOne f)
+  unfolding libraryBytes
+  size-is = es (libraryFields f) (ap (map length) (sym (h .are)) ∙ lengths-are src made places sizes (h .row)) ∙ rw em
+
+  module _ (some : size ≡ 0 → ⊥) where
+    filled : (blockOne f ≡ sealed 1 (f .media ∷ separated (libraryFields f))) × (length (blockOne f) ≡ 5 + length (separated (libraryFields f)))
+    unfolding libraryBytes
+    filled = block-some (f .media) (separated (libraryFields f)) (λ z. some (size-is ∙ z))
+
+    pub block-is : sealed 1 (media ∷ content src made places sizes) ≡ blockOne f
+    block-is = rw (em, h .are) (sym (filled .0))
+
+    pub content-long : size ≡ 5 + length (content src made places sizes)
+    content-long = rw (h .are) (size-is ∙ filled .1)
 
 -- ---- room
 

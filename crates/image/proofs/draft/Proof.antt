@@ -1,196 +1,214 @@
+-- `image::draft` meets its contract: 10 and 11 in order, and then the layout piece by piece.
+use mathlib.Core.Path.{_≡_, refl, sym, ap, _∙_}
+use mathlib.Core.Logic.{⊎-elim}
+use Prim.Native.Nat.{ℕ, _+_}
+use native.Mathlib.Omega.{arith}
+use mathlib.Core.Bool.{Bool, true, false}
+use mathlib.Core.List.{List, [], _∷_}
+use lib.ListN.{length, getD}
+use borrow.Author.Needs.{needs}
+use Rattle.format.specs.Answers.{need, inOrder, afterwards}
+use Rattle.format.specs.Chain.{blockOne}
+use Rattle.format.specs.Elements.{numbers, placeIn, place, clash}
+use Rattle.format.specs.Layout.{ownerWidth, ownerOf, library, hasLayout}
+use Rattle.format.proofs.Tests.{not-t, not-f}
+use Rattle.image.specs.Laying.{OwnerOrNone, On}
+use Rattle.image.specs.Drafting.{drafting}
+use Rattle.image.proofs.Drafts.{blank-all, on-length, on-blank}
+use Rattle.image.proofs.Placing.{ss, sized, stands, slot-is, set-four, usage-one, owner-good, Fielded, fields-found, behind-told, size-is, block-is, content-long, room-is, room-told, Ready, headed, owned, blocked, first, second, third, no-third, last-fits, last}
 use Rattle.image.proofs.draft.Statement.{statement}
 use Rattle.image.proofs.draft.Tie as tie
-use Rattle.image.proofs.draft.Reads as reads
-use Rattle.image.proofs.draft.Lts as lts
-use Rattle.image.proofs.basic.put_front.Reads as put-front-reads
-use Rattle.image.proofs.basic.put_owner.Reads as put-owner-reads
-use Rattle.image.proofs.blocks.put_library.Reads as put-library-reads
-use Rattle.image.proofs.clashing.Reads as clashing-reads
-use Rattle.image.proofs.item_place.Reads as item-place-reads
-use Rattle.image.proofs.owner_place.Reads as owner-place-reads
-use Rattle.image.proofs.sizes.block_size.Reads as block-size-reads
-use Rattle.image.proofs.sizes.first_or_zero.Reads as first-or-zero-reads
-use Rattle.image.proofs.sizes.has_room.Reads as has-room-reads
-use Rattle.image.proofs.sizes.owner_behind.Reads as owner-behind-reads
-use Rattle.image.proofs.sizes.owner_width.Reads as owner-width-reads
-use Rattle.image.proofs.sizes.usage_behind.Reads as usage-behind-reads
-use Rattle.image.proofs.slot.Reads as slot-reads
-use Rattle.strings.proofs.put_bytes.Reads as put-bytes-reads
 
--- src/lib.rt:71:8
-clashing-requires : tie.Need-clashing-requires
-clashing-requires c κs = ?
+-- ---- what the code finds
 
--- src/lib.rt:72:9
+abbrev n : tie.Start → ℕ
+n c = length (c .args .draft .now)
+
+clash-told : (c : tie.After-clashing) (t : Bool) → c .clashing .result ≡ t → clash (ss (c .before .before .before .before .before .pre)) ≡ t
+clash-told c t e = let p = c .before .before .before .before .before .pre in sym (c .clashing .ensures (ss p) (sized p)) ∙ e
+
+abbrev from-owner : tie.After-slot → tie.Start
+from-owner c = c .before .before .before .before .before .before .before .before .before
+
+clear : (c : tie.After-slot) → clash (ss (from-owner c .pre)) ≡ false
+clear c = clash-told (c .before .before .before .before) false (c .before .before .before .if1 .left)
+
+owner-is : (c : tie.After-slot) → c .slot .result .now ≡ ownerOf (ss (from-owner c .pre))
+owner-is c = let p = from-owner c .pre in c .slot .ensures ∙ slot-is p _ (c .before .owner-place .ensures .0) ∙ c .before .owner-place .ensures .1 (ss p) (sized p)
+
+owner-fine : (c : tie.After-slot) → OwnerOrNone (c .slot .result .now)
+owner-fine c = rw (owner-is c) (owner-good (from-owner c .pre) (clear c))
+
+usage-is : (c : tie.After-slot2) → c .slot2 .result .now ≡ getD (ss (from-owner (c .before) .pre)) 3 []
+usage-is c = c .slot2 .ensures ∙ slot-is (from-owner (c .before) .pre) 3 (omega arith)
+
+abbrev to-owner : tie.After-usage-behind → tie.After-slot
+to-owner c = c .before .before .before .before .before .before .before .before .before .before
+
+fields : (c : tie.After-usage-behind) → let s = from-owner (to-owner c) in
+    Fielded (s .args .src .now) (s .args .made .now)
+        (getD (s .args .ats .now) (c .before .before .before .before .before .before .before .before .before .before .before .before .item-place .result) 0 ∷ getD (s .args .ats .now) (c .before .before .before .before .before .before .before .before .before .before .before .owner-place .result) 0 ∷ getD (s .args .ats .now) 3 0 ∷ [])
+        (getD (s .args .lens .now) (c .before .before .before .before .before .before .before .before .before .before .before .before .item-place .result) 0 ∷ c .before .before .before .before .before .owner-behind .result ∷ c .usage-behind .result ∷ []) (library (n s) (ss (s .pre)))
+unfolding library numbers placeIn place
+fields c =
+    let s = from-owner (to-owner c) in
+    let p = s .pre in
+    let item = c .before .before .before .before .before .before .before .before .before .before .before .before .item-place in
+    let name = c .before .before .before .before .before .before .before .before .before .before .before .owner-place in
+    fields-found p (n s) (item .result) (name .result) _ _ (item .ensures .0) (name .ensures .0) (item .ensures .1 (ss p) (sized p)) (name .ensures .1 (ss p) (sized p))
+    (rw (owner-is (to-owner c)) at (c .before .before .before .before .before .owner-behind .ensures)) (rw (usage-is (c .before .before .before .before .before .before .before .before .before)) at (c .usage-behind .ensures))
+
+media-is : (c : tie.After-first-or-zero) → let s = from-owner (c .before .before .before .before) in c .first-or-zero .result ≡ library (n s) (ss (s .pre)) .media
+unfolding library numbers placeIn place
+media-is c = c .first-or-zero .ensures ∙ ap (λ (x : List ℕ). getD x 0 0) (c .before .slot3 .ensures ∙ slot-is (from-owner (c .before .before .before .before) .pre) 4 (omega arith))
+
+abbrev from-size : tie.After-block-size → tie.Start
+from-size c = from-owner (to-owner (c .before .before))
+
+size-told : (c : tie.After-block-size) → let s = from-size c in c .block-size .result ≡ length (blockOne (library (n s) (ss (s .pre))))
+size-told c = size-is (fields (c .before .before)) _ _ (media-is (c .before .before .before .before .before .before .before .before)) (c .block-size .ensures)
+
+room : (c : tie.After-has-room) (t : Bool) → c .has-room .result ≡ t → let s = from-size (c .before) in hasLayout (n s) (ss (s .pre)) (s .args .carried .now) ≡ t
+room c t e =
+    let s = from-size (c .before) in
+    sym (room-is (n s) (ss (s .pre)) (s .args .carried .now) (s .pre .size) _ (size-told (c .before))) ∙ sym (c .has-room .ensures) ∙ e
+
 returns : tie.Need-returns
-returns c = ?
+unfolding drafting need inOrder afterwards
+returns c = record { answered = rw (clash-told (c .before) true (c .if1 .taken)); left = refl }
 
--- src/lib.rt:75:9
-item-place-requires : tie.Need-item-place-requires
-item-place-requires c κs = ?
-
--- src/lib.rt:76:9
-owner-place-requires : tie.Need-owner-place-requires
-owner-place-requires c κs = ?
-
--- src/lib.rt:77:9
-slot-requires : tie.Need-slot-requires
-slot-requires c κs = ?
-
--- src/lib.rt:78:17
-slot-requires-2 : tie.Need-slot-requires-2
-slot-requires-2 c κs = ?
-
--- src/lib.rt:78:17
 shared-slice-read-usage : tie.Need-shared-slice-read-usage
-shared-slice-read-usage c = ?
+shared-slice-read-usage c = omega (arith, ap length (usage-is (c .before)), usage-one (from-owner (c .before .before) .pre))
 
--- src/lib.rt:79:38
-slot-requires-3 : tie.Need-slot-requires-3
-slot-requires-3 c κs = ?
-
--- src/lib.rt:79:9
-first-or-zero-requires : tie.Need-first-or-zero-requires
-first-or-zero-requires c κs = ?
-
--- src/lib.rt:80:9
-owner-behind-requires : tie.Need-owner-behind-requires
-owner-behind-requires c κs = ?
-
--- src/lib.rt:81:19
-mul-put-bytes : tie.Need-mul-put-bytes
-mul-put-bytes c = ?
-
--- src/lib.rt:81:19
-element-copy-out-put-bytes : tie.Need-element-copy-out-put-bytes
-element-copy-out-put-bytes c = ?
-
--- src/lib.rt:81:30
-mul-t27 : tie.Need-mul-t27
-mul-t27 c = ?
-
--- src/lib.rt:81:30
-element-copy-out-t30 : tie.Need-element-copy-out-t30
-element-copy-out-t30 c = ?
-
--- src/lib.rt:81:41
-element-copy-out-t33 : tie.Need-element-copy-out-t33
-element-copy-out-t33 c = ?
-
--- src/lib.rt:82:17
-mul-t23 : tie.Need-mul-t23
-mul-t23 c = ?
-
--- src/lib.rt:82:17
-element-copy-out-t33-2 : tie.Need-element-copy-out-t33-2
-element-copy-out-t33-2 c = ?
-
--- src/lib.rt:82:37
-usage-behind-requires : tie.Need-usage-behind-requires
-usage-behind-requires c κs = ?
-
--- src/lib.rt:83:41
-slice-aggregate-block-size : tie.Need-slice-aggregate-block-size
-slice-aggregate-block-size c = ?
-
--- src/lib.rt:83:9
-block-size-requires : tie.Need-block-size-requires
-block-size-requires c κs = ?
-
--- src/lib.rt:84:9
-has-room-requires : tie.Need-has-room-requires
-has-room-requires c κs = ?
-
--- src/lib.rt:85:9
 returns-2 : tie.Need-returns-2
-returns-2 c = ?
+unfolding drafting need inOrder afterwards
+returns-2 c = let h = c .before in record { answered = rw (clear (to-owner (h .before .before .before)), room h false (not-t _ (c .if2 .taken))); left = refl }
 
--- src/lib.rt:89:9
-slot-requires-4 : tie.Need-slot-requires-4
-slot-requires-4 c κs = ?
-
--- src/lib.rt:90:9
-slot-requires-5 : tie.Need-slot-requires-5
-slot-requires-5 c κs = ?
-
--- src/lib.rt:87:5
 put-front-requires : tie.Need-put-front-requires
-put-front-requires c κs = ?
+put-front-requires c κs =
+    let s = from-size (c .before .before .before .before .before) in
+    (blank-all (s .args .draft .now) (s .pre .blank), omega (arith, s .pre .size), ap length (c .slot5 .ensures ∙ slot-is (s .pre) 2 (omega arith)) ∙ set-four (s .pre))
 
--- src/lib.rt:93:5
+-- ---- the layout, piece by piece
+
+abbrev to-size : tie.After-put-front → tie.After-block-size
+to-size c = c .before .before .before .before .before .before
+
+ready : (c : tie.After-put-front) → let s = from-size (to-size c) in Ready (ss (s .pre)) (s .args .carried .now) (s .args .draft .now)
+ready c =
+    let s = from-size (to-size c) in
+    let e = c .before .before .before .before in
+    record { least = s .pre .size; blank = s .pre .blank; fit = room (e .before) true (not-f _ (e .if2 .left)) }
+
+on-front : (c : tie.After-put-front) → On 0 (from-size (to-size c) .args .draft .now) (headed (ready c)) 21 (c .put-front .last .0)
+on-front c =
+    let p = from-size (to-size c) .pre in
+    first (ready c) _ _ _ _ (c .before .before .slot4 .ensures ∙ slot-is p 0 (omega arith)) (c .before .slot5 .ensures ∙ slot-is p 2 (omega arith))
+    (ap (λ (x : List ℕ). getD x 0 0) (usage-is (to-size c .before .before .before .before .before .before .before .before .before .before .before))) (c .put-front .ensures)
+
+abbrev owner-on : tie.After-put-front → tie.After-slot
+owner-on c = to-owner (to-size c .before .before)
+
 put-owner-requires : tie.Need-put-owner-requires
-put-owner-requires c κs = ?
+put-owner-requires c κs =
+    let g = c .before .before .before in
+    let x = on-front g in (
+      record { size = omega (arith, on-length x, ready g .least); blank = on-blank x; good = owner-fine (owner-on g) },
+      rw (on-length x) (behind-told (ownerWidth (n (from-size (to-size g)))) (owner-on g .slot .result .now) _ (to-size g .before .before .before .before .before .before .before .owner-behind .ensures)),
+    )
 
--- src/lib.rt:94:19
-owner-width-requires : tie.Need-owner-width-requires
-owner-width-requires c κs = ?
+abbrev to-front : tie.After-owner-width → tie.After-put-front
+to-front c = c .before .before .before .before .before .before .before
 
--- src/lib.rt:94:14
-add-at : tie.Need-add-at
-add-at c = ?
+on-owner : (c : tie.After-owner-width) → let r = ready (to-front c) in
+    On 0 (from-size (to-size (to-front c)) .args .draft .now) (owned r) (21 + c .owner-width .result) (c .before .before .before .put-owner .last .0)
+on-owner c =
+    let g = to-front c in
+    second (ready g) _ (ap (λ (w : ℕ). 21 + w) (c .owner-width .ensures)) _ _ _ (owner-is (owner-on g)) (on-front g) (c .before .before .before .put-owner .ensures)
 
--- src/lib.rt:96:40
-slice-aggregate-put-library : tie.Need-slice-aggregate-put-library
-slice-aggregate-put-library c = ?
-
--- src/lib.rt:96:49
-slice-aggregate-put-library-2 : tie.Need-slice-aggregate-put-library-2
-slice-aggregate-put-library-2 c = ?
-
--- src/lib.rt:96:9
 put-library-requires : tie.Need-put-library-requires
-put-library-requires c κs = ?
+put-library-requires c κs =
+    let o = c .before .before .before .before in
+    let z = to-size (to-front o) in
+    let p = ready (to-front o) in
+    let x = on-owner o in
+    let h = room-told _ _ _ (p .least) (p .fit) in
+    let e = fields (z .before .before) in
+    record {
+      few = e .few;
+      row = e .row;
+      blank = on-blank x;
+      is = content-long e _ _ (media-is (z .before .before .before .before .before .before .before .before)) (z .block-size .ensures) (c .before .before .before .if3 .taken);
+      short = omega (arith, h .0, size-told z);
+      room = omega (arith, h .1, size-told z, on-length x, o .owner-width .ensures);
+    }
 
--- src/lib.rt:98:31
+on-block : (c : tie.Joined3) → let o = c .before in let r = ready (to-front o) in
+    On 0 (from-size (to-size (to-front o)) .args .draft .now) (blocked r) (21 + o .owner-width .result + to-size (to-front o) .block-size .result) (c .if3 .draft)
+on-block c =
+    let o = c .before in
+    let z = to-size (to-front o) in
+    let p = ready (to-front o) in
+    let is = ap (λ (w : ℕ). 21 + w) (o .owner-width .ensures) in
+    let block = block-is (fields (z .before .before)) _ _ (media-is (z .before .before .before .before .before .before .before .before)) (z .block-size .ensures) in
+    ⊎-elim
+    (λ w. rw (w .7) (third p _ is _ (size-told z) _ (on-owner o) _ (rw (block (w .0 .taken)) at (w .4 .ensures))))
+    (λ w. rw (w .1) (no-third p _ is _ (size-told z) _ (on-owner o) (w .0 .left)))
+    (c .if3 .came)
+
 add-put-bytes : tie.Need-add-put-bytes
-add-put-bytes c = ?
+add-put-bytes c =
+    let o = c .before .before in
+    let p = ready (to-front o) in omega (arith, o .owner-width .ensures, size-told (to-size (to-front o)), room-told _ _ _ (p .least) (p .fit) .0)
 
--- src/lib.rt:98:5
 put-bytes-requires : tie.Need-put-bytes-requires
-put-bytes-requires c κs = ?
+put-bytes-requires c κs = let j = c .before in omega (arith, last-fits (ready (to-front (j .before))) _ _ (on-block j), on-length (on-block j))
 
--- src/lib.rt:60:1
 same-length : tie.Need-same-length
-same-length c = ?
+same-length c = c .before .draft4 .given ∙ on-length (on-block (c .before .before .before .before))
 
--- src/lib.rt:60:1
 returns-3 : tie.Need-returns-3
-returns-3 c = ?
+unfolding drafting need inOrder afterwards
+returns-3 c =
+    let b = c .before .before in
+    let j = b .before .before in
+    let p = ready (to-front (j .before)) in
+    record { answered = rw (clear (owner-on (to-front (j .before))), p .fit); left = last p _ _ (on-block j) _ _ (b .put-bytes .ensures) }
 
 pub draft-spec : {M : Type 1} → statement M
 draft-spec =
     tie.close
     (tie.spec
-    clashing-requires
+    (λ c κs. search needs)
     returns
-    item-place-requires
-    owner-place-requires
-    slot-requires
-    slot-requires-2
+    (λ c κs. search needs)
+    (λ c κs. search needs)
+    (λ c κs. stands (c .before .before .before .before .before .before .before .before .pre) _ (c .owner-place .ensures .0))
+    (λ c κs. stands (from-owner c .pre) 3 (omega arith))
     shared-slice-read-usage
-    slot-requires-3
-    first-or-zero-requires
-    owner-behind-requires
-    mul-put-bytes
-    element-copy-out-put-bytes
-    mul-t27
-    element-copy-out-t30
-    element-copy-out-t33
-    mul-t23
-    element-copy-out-t33-2
-    usage-behind-requires
-    slice-aggregate-block-size
-    block-size-requires
-    has-room-requires
+    (λ c κs. stands (from-owner (c .before .before) .pre) 4 (omega arith))
+    (λ c κs. search needs)
+    (λ c κs. (owner-fine (c .before .before .before .before), omega (arith, from-owner (c .before .before .before .before) .pre .size)))
+    (λ c. omega (arith, c .before .before .before .before .before .before .before .item-place .ensures .0))
+    (λ c. c .before .before .before .before .before .before .before .item-place .ensures .0)
+    (λ c. omega (arith, c .before .before .before .before .before .before .before .owner-place .ensures .0))
+    (λ c. c .before .before .before .before .before .before .before .owner-place .ensures .0)
+    (λ c. search needs)
+    (λ c. omega (arith, c .before .before .before .before .before .before .before .before .before .before .item-place .ensures .0))
+    (λ c. c .before .before .before .before .before .before .before .before .before .before .item-place .ensures .0)
+    (λ c κs. search needs)
+    (λ c. refl)
+    (λ c κs. fields (c .before) .few)
+    (λ c κs. from-size c .pre .size)
     returns-2
-    slot-requires-4
-    slot-requires-5
+    (λ c κs. stands (from-size (c .before .before .before) .pre) 0 (omega arith))
+    (λ c κs. stands (from-size (c .before .before .before .before) .pre) 2 (omega arith))
     put-front-requires
     put-owner-requires
-    owner-width-requires
-    add-at
-    slice-aggregate-put-library
-    slice-aggregate-put-library-2
+    (λ c κs. omega (arith, ready (c .before .before .before .before .before .before) .least))
+    (λ c. search needs)
+    (λ c. refl)
+    (λ c. refl)
     put-library-requires
     add-put-bytes
     put-bytes-requires
