@@ -14,26 +14,12 @@ use Rattle.format.proofs.Strings.{other, solid, suc-other, trim-trim, p
 -- ---- laid down and found: fields hold no 00
 
 -- the first field, and what follows its separator
-module _ (r : List ℕ) where
-  first-field : (f : List ℕ) → solid f ≡ true → upTo 0 (f ++ trim 0 r) ≡ f
-  unfolding all upTo trim
-  first-field [] e = go r
-    where
-      go : (r : List ℕ) → upTo 0 (trim 0 r) ≡ []
-      go [] = refl
-      go (y ∷ r) = refl
-  first-field (zero ∷ f) e = never (cc)
-  first-field (suc x ∷ f) e = rw (suc-other x) (ap (_∷_ (suc x)) (first-field f (and-r (other 0 (suc x)) (solid f) e)))
-
-  past-field : (f : List ℕ) → solid f ≡ true → past 0 (f ++ trim 0 r) ≡ r
-  unfolding all past trim
-  past-field [] e = go r
-    where
-      go : (r : List ℕ) → past 0 (trim 0 r) ≡ r
-      go [] = refl
-      go (y ∷ r) = refl
-  past-field (zero ∷ f) e = never (cc)
-  past-field (suc x ∷ f) e = rw (suc-other x) (past-field f (and-r (other 0 (suc x)) (solid f) e))
+first-field : (f r : List ℕ) → solid f ≡ true → (upTo 0 (f ++ trim 0 r) ≡ f) × (past 0 (f ++ trim 0 r) ≡ r)
+unfolding all upTo past trim
+first-field [] [] e = (refl, refl)
+first-field [] (y ∷ r) e = (refl, refl)
+first-field (zero ∷ f) r e = never (cc)
+first-field (suc x ∷ f) r e = let h = first-field f r (and-r (other 0 (suc x)) (solid f) e) in rw (suc-other x) (ap (_∷_ (suc x)) (h .0), h .1)
 
 nothing-beyond : (n : ℕ) → beyond n [] ≡ []
 unfolding beyond past
@@ -44,15 +30,15 @@ pub beyond-separated : (n : ℕ) (fs : List (List ℕ)) → all solid fs ≡ tru
 unfolding all beyond separated
 beyond-separated zero fs e = refl
 beyond-separated (suc n) [] e = nothing-beyond (suc n)
-beyond-separated (suc n) (f ∷ fs) e = ap (beyond n) (past-field (separated fs) f (and-l (solid f) (all solid fs) e)) ∙ beyond-separated n fs (and-r (solid f) (all solid fs) e)
+beyond-separated (suc n) (f ∷ fs) e = ap (beyond n) (first-field f (separated fs) (and-l (solid f) (all solid fs) e) .1) ∙ beyond-separated n fs (and-r (solid f) (all solid fs) e)
 
 pub fields-separated : (n : ℕ) (fs : List (List ℕ)) → all solid fs ≡ true → n ≤ length fs → fieldsIn n (separated fs) ≡ take n fs
 unfolding all fieldsIn separated
 fields-separated zero fs e h = refl
 fields-separated (suc n) [] e h = absurd (omega arith)
 fields-separated (suc n) (f ∷ fs) e h =
-    let s = and-l (solid f) (all solid fs) e in
-    ap₂ _∷_ (first-field (separated fs) f s) (ap (fieldsIn n) (past-field (separated fs) f s) ∙ fields-separated n fs (and-r (solid f) (all solid fs) e) (omega arith))
+    let first = first-field f (separated fs) (and-l (solid f) (all solid fs) e) in
+    ap₂ _∷_ (first .0) (ap (fieldsIn n) (first .1) ∙ fields-separated n fs (and-r (solid f) (all solid fs) e) (omega arith))
 
 -- and no 00 is at the end
 solid-front : (f r : List ℕ) → solid f ≡ true → strip r ≡ r → strip (f ++ r) ≡ f ++ r

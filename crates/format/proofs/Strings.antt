@@ -124,19 +124,12 @@ trim-head zero [] = refl
 trim-head zero (y ∷ ys) = refl
 trim-head (suc x) r = refl
 
-pub head-strip : (x : ℕ) (s : List ℕ) → getD (strip (x ∷ s)) 0 0 ≡ x
-unfolding strip
-head-strip x s = trim-head x (strip s)
-
 pub trim-drop : (x : ℕ) (r : List ℕ) → drop 1 (trim x r) ≡ r
 unfolding trim
 trim-drop zero [] = refl
 trim-drop zero (y ∷ ys) = refl
 trim-drop (suc x) r = refl
 
-pub drop-strip : (x : ℕ) (s : List ℕ) → drop 1 (strip (x ∷ s)) ≡ strip s
-unfolding strip
-drop-strip x s = trim-drop x (strip s)
 
 -- stripping twice strips once
 pub trim-trim : (x : ℕ) (r : List ℕ) → strip r ≡ r → strip (trim x r) ≡ trim x r
@@ -211,18 +204,6 @@ unfolding all strip trim
 solid-strip [] e = refl
 solid-strip (zero ∷ s) e = never (cc)
 solid-strip (suc x ∷ s) e = ap (λ (r : List ℕ). suc x ∷ r) (solid-strip s (and-r (other 0 (suc x)) (solid s) e))
-
-trim-up-to : (x : ℕ) (r : List ℕ) → upTo 0 (trim x r) ≡ upTo 0 (x ∷ r)
-unfolding trim upTo
-trim-up-to zero [] = refl
-trim-up-to zero (y ∷ ys) = refl
-trim-up-to (suc x) r = refl
-
-pub up-to-strip : (s : List ℕ) → upTo 0 (strip s) ≡ upTo 0 s
-unfolding strip upTo
-up-to-strip [] = refl
-up-to-strip (zero ∷ s) = trim-up-to zero (strip s)
-up-to-strip (suc x ∷ s) = trim-up-to (suc x) (strip s) ∙ rw (suc-other x) (ap (λ (r : List ℕ). suc x ∷ r) (up-to-strip s))
 
 trim-past : (x : ℕ) (r : List ℕ) → past 0 (trim x r) ≡ past 0 (x ∷ r)
 unfolding trim past
