@@ -76,7 +76,7 @@ pub fn draft<'a>(
     let name = owner_place(lens);
     let owner = slot(src, made, ats, lens, name);
     let usage = slot(src, made, ats, lens, 3)[0];
-    let media = sizes::first_or_zero(slot(src, made, ats, lens, 4));
+    let media = strings::byte_at(slot(src, made, ats, lens, 4), 0);
     let behind = sizes::owner_behind(owner, n);
     let places = [ats[item], ats[name], ats[3]];
     let long = [lens[item], behind, sizes::usage_behind(usage)];

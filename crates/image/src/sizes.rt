@@ -4,7 +4,7 @@ ghost use mathlib.Core.Bool.{_&&_, _||_};
 ghost use mathlib.Core.List.{List};
 ghost use Prim.Native.Nat.{ℕ, _+_, _%_, _≤_};
 ghost use lib.Dec.{eqb, leb};
-ghost use lib.ListN.{length, getD};
+ghost use lib.ListN.{length};
 ghost use Rattle.format.specs.Bytes.{if_then_else_, isEmpty, trim};
 ghost use Rattle.format.specs.Fields.{basicOwner};
 ghost use Rattle.format.specs.Chain.{separated, blockWith};
@@ -58,16 +58,6 @@ pub fn usage_behind(usage: u8) -> usize
     ensures { λ r. ⌜ r ≡ if eqb (usage % 16) 0 then 0 else 1 ⌝ }
 {
     if usage % 16 == 0 { 0 } else { 1 }
-}
-
-// The first byte, 0 where there is none.
-pub fn first_or_zero(bytes: &[u8]) -> u8
-    ensures { λ r. ⌜ r ≡ getD (now (bytes .entry)) 0 0 ⌝ }
-{
-    if bytes.len() == 0 {
-        return 0;
-    }
-    bytes[0]
 }
 
 // The length of block 1 with fields of these lengths: nothing, where there is neither a media byte nor a field.

@@ -58,9 +58,9 @@ fields c =
     fields-found p (n s) (item .result) (name .result) _ _ (item .ensures .0) (name .ensures .0) (item .ensures .1 (ss p) (sized p)) (name .ensures .1 (ss p) (sized p))
     (rw (owner-is (to-owner c)) at (c .before .before .before .before .before .owner-behind .ensures)) (rw (usage-is (c .before .before .before .before .before .before .before .before .before)) at (c .usage-behind .ensures))
 
-media-is : (c : tie.After-first-or-zero) → let s = from-owner (c .before .before .before .before) in c .first-or-zero .result ≡ library (n s) (ss (s .pre)) .media
+media-is : (c : tie.After-byte-at) → let s = from-owner (c .before .before .before .before) in c .byte-at .result ≡ library (n s) (ss (s .pre)) .media
 unfolding library numbers placeIn place
-media-is c = c .first-or-zero .ensures ∙ ap (λ (x : List ℕ). getD x 0 0) (c .before .slot3 .ensures ∙ slot-is (from-owner (c .before .before .before .before) .pre) 4 (omega arith))
+media-is c = c .byte-at .ensures ∙ ap (λ (x : List ℕ). getD x 0 0) (c .before .slot3 .ensures ∙ slot-is (from-owner (c .before .before .before .before) .pre) 4 (omega arith))
 
 abbrev from-size : tie.After-block-size → tie.Start
 from-size c = from-owner (to-owner (c .before .before))
