@@ -1,8 +1,7 @@
 -- The layout of what a readable tag holds exists on that tag: no block of it is longer than what was read.
-use mathlib.Core.Path.{_≡_, refl, sym, ap, ap₂, _∙_}
-use mathlib.Core.Logic.{_⊎_, inl, inr, ⊎-elim}
-use Prim.Native.Nat.{ℕ, zero, suc, _+_, _-_, _*_, _%_, _≤_}
-use native.Mathlib.Nat.{le-refl}
+use mathlib.Core.Path.{_≡_, refl, sym, ap, _∙_}
+use mathlib.Core.Logic.{_⊎_, inl, inr}
+use Prim.Native.Nat.{ℕ, _+_, _-_, _*_, _%_, _≤_}
 use native.Mathlib.Omega.{arith}
 use mathlib.Core.Bool.{Bool, true, false, _||_}
 use mathlib.Core.List.{List, [], _∷_, _++_}
@@ -12,13 +11,13 @@ use borrow.Author.Tests.{eqb-true, le-leb, lt-leb}
 use Rattle.format.specs.Bytes.{if_then_else_, isEmpty, bytes, same, part, padWith, strip, trim, upTo, past, joined}
 use Rattle.format.specs.Pages.{goodSize}
 use Rattle.format.specs.Fields.{isilOf, hyphen, blank, alternate, alternative, marked, prefixIn, ownerSaid, goodOwner, long, packed, basicOwner}
-use Rattle.format.specs.Chain.{isLibrary, libraryBlock, otherBlocks, Library, payload, fieldsIn, beyond, separated, blockWith, lastField, libraryIn, libraryBytes, blockOne}
+use Rattle.format.specs.Chain.{isLibrary, libraryBlock, otherBlocks, Library, payload, fieldsIn, beyond, separated, blockWith, lastField, libraryIn, libraryFields, libraryBytes, blockOne}
 use Rattle.format.specs.Elements.{Content, numbers, placeIn, place}
 use Rattle.format.specs.Layout.{ownerWidth, ownerOf, library, basic, ownBlocks, laidOut, fits, hasLayout}
 use Rattle.format.specs.Reading.{mainUsage, itemIn, ownerIn, blocksIn, libraryOn, ownerOn, contentIn, Readable}
 use Rattle.format.proofs.Tests.{never, beq-false, and-i, or-r}
 use Rattle.format.proofs.Strings.{some-behind, part-length, strip-length, trim-drop, strip-strip, length-pad, up-to-before, past-before}
-use Rattle.format.proofs.Separated.{beyond-strip, rebuilt, none, next, trim-mono, fewer-shorter}
+use Rattle.format.proofs.Separated.{beyond-strip, rebuilt, Fewer, none, next, trim-mono, fewer-shorter}
 use Rattle.format.proofs.Fields.{isil-facts, isil-first, alternative-facts, said-cases}
 use Rattle.format.proofs.Blocks.{sealed-length}
 use Rattle.format.proofs.Chains.{walked-from, chain-total}
@@ -45,17 +44,9 @@ library-rebuilt b h = go (strip (drop 4 b)) (strip-strip (drop 4 b)) h
         ap (λ (u : List ℕ). trim m (separated (upTo 0 s ∷ upTo 0 (past 0 s) ∷ u ∷ []))) (last-byte (past 0 (past 0 s)) h (beyond-strip 2 s whole)) ∙ ap (trim m) (rebuilt 2 s whole) ∙ ap (trim m) (sym whole) ∙ e
 
 -- block 1 with some of its fields left out is no longer
-pub record Less (f g : Library) : Type 0 where
-  pub media : f .media ≡ g .media
-  pub item : (f .item ≡ g .item) ⊎ (f .item ≡ [])
-  pub owner : (f .owner ≡ g .owner) ⊎ (f .owner ≡ [])
-  pub usage : (f .usage ≡ g .usage) ⊎ (f .usage ≡ 0)
-
-less-bytes : (f g : Library) → Less f g → length (libraryBytes f) ≤ length (libraryBytes g)
-unfolding libraryBytes trim
-less-bytes f g l =
-    let usage = ⊎-elim (λ e. inl (ap (λ (u : ℕ). trim u []) e)) (λ e. inr (ap (λ (u : ℕ). trim u []) e)) (l .usage) in
-    rw (l .media) (trim-mono (g .media) _ _ (fewer-shorter _ _ (next (l .item) (next (l .owner) (next usage none)))))
+less-bytes : (f g : Library) → f .media ≡ g .media → Fewer (libraryFields f) (libraryFields g) → length (libraryBytes f) ≤ length (libraryBytes g)
+unfolding libraryBytes
+less-bytes f g m h = rw m (trim-mono (g .media) _ _ (fewer-shorter _ _ h))
 
 less-block : (id : ℕ) (p b : List ℕ) → length p ≤ length (payload b) → length (blockWith id p) ≤ length b
 unfolding blockWith payload
@@ -125,14 +116,15 @@ module _ (t : List ℕ) (r : Readable t) where
           pick false = inr refl
       go false = inl (rw (lt-leb 17 (length i) (omega arith)))
 
-  less-usage : (m u : ℕ) → let x : ℕ = if eqb u 0 then m * 16 else u in ((if eqb (x % 16) 0 then 0 else x) ≡ u) ⊎ ((if eqb (x % 16) 0 then 0 else x) ≡ 0)
+  less-usage : (m u : ℕ) → let x : ℕ = if eqb u 0 then m * 16 else u in let v : ℕ = if eqb (x % 16) 0 then 0 else x in (trim v [] ≡ trim u []) ⊎ (trim v [] ≡ [])
+  unfolding trim
   less-usage m u = go (eqb u 0) refl
     where
-      pick : (x : Bool) → ((if x then 0 else u) ≡ u) ⊎ ((if x then 0 else u) ≡ 0)
+      pick : (x : Bool) → (trim (if x then 0 else u) [] ≡ trim u []) ⊎ (trim (if x then 0 else u) [] ≡ [])
       pick true = inr refl
       pick false = inl refl
 
-      go : (t : Bool) → eqb u 0 ≡ t → let x : ℕ = if t then m * 16 else u in ((if eqb (x % 16) 0 then 0 else x) ≡ u) ⊎ ((if eqb (x % 16) 0 then 0 else x) ≡ 0)
+      go : (t : Bool) → eqb u 0 ≡ t → let x : ℕ = if t then m * 16 else u in let v : ℕ = if eqb (x % 16) 0 then 0 else x in (trim v [] ≡ trim u []) ⊎ (trim v [] ≡ [])
       go true q = let z : m * 16 % 16 ≡ 0 = omega arith in inr (rw z)
       go false q = pick (eqb (u % 16) 0)
 
@@ -168,22 +160,19 @@ module _ (t : List ℕ) (r : Readable t) where
       go [] e = inr (rw (said-basic (ownerWidth n) (ownerIn t) (fields-parts t (r .fields) .owner) (unmarked e) l))
       go (x ∷ fo) e = keep (x ∷ fo) (basicOwner (ownerWidth n) (x ∷ fo))
 
-  again-less : (n : ℕ) → length (ownerIn t) ≤ ownerWidth n → Less (again n) f
+  again-fewer : (n : ℕ) → length (ownerIn t) ≤ ownerWidth n → Fewer (libraryFields (again n)) (libraryFields f)
   unfolding again library contentIn place placeIn numbers
-  again-less n l = record {
-    media = less-media (f .media);
-    item = less-item (itemIn t) (f .item) (omega (arith, strip-length (part 3 16 t), part-length 3 16 t));
-    owner = less-owner n l;
-    usage = less-usage (mainUsage t) (f .usage);
-  }
+  again-fewer n l =
+      next (less-item (itemIn t) (f .item) (omega (arith, strip-length (part 3 16 t), part-length 3 16 t)))
+      (next (less-owner n l) (next (less-usage (mainUsage t) (f .usage)) none))
 
   -- block 1 is no longer than it was
   pub block-shorter : (n : ℕ) → length (ownerIn t) ≤ ownerWidth n → length (blockOne (library n (contentIn t .slots))) ≤ length (libraryBlock (blocksIn t))
-  unfolding again
+  unfolding again library contentIn place placeIn numbers
   block-shorter n l =
       let b : List ℕ = libraryBlock (blocksIn t) in
       let lt = library-tests b (fields-parts t (r .fields) .library) in
-      less-block 1 (libraryBytes (library n (contentIn t .slots))) b (omega (arith, less-bytes (library n (contentIn t .slots)) f (again-less n l), ap length (library-rebuilt b (lt .0))))
+      less-block 1 (libraryBytes (again n)) b (omega (arith, less-bytes (again n) f (less-media (f .media)) (again-fewer n l), ap length (library-rebuilt b (lt .0))))
 
 -- ---- how many bytes the blocks have
 

@@ -1,7 +1,7 @@
 -- Whatever a readable tag holds is sound: a value for each number, blocks that can be carried, no clash.
 use mathlib.Core.Path.{_≡_, refl, sym, ap, _∙_}
 use mathlib.Core.Logic.{_⊎_, inl, inr}
-use Prim.Native.Nat.{ℕ, _+_, _-_, _≤_}
+use Prim.Native.Nat.{ℕ, zero, suc, _≤_}
 use native.Mathlib.Omega.{arith}
 use mathlib.Core.Bool.{Bool, true, false, not, _&&_, _||_, Bool·beq}
 use mathlib.Core.List.{List, [], _∷_, _++_}
@@ -108,16 +108,20 @@ others-formed (b ∷ bs) e = go (isLibrary b) refl (others-formed bs (and-r (han
         let w = and-l (handed b) (all handed bs) e in
         and-i (and-i (and-i (and-l (wellFormed b) (leb (length b) 255) w) (ap not q)) (and-r (wellFormed b) (leb (length b) 255) w)) ih
 
--- ---- block 1's fields are no longer than the block
+-- ---- the fields of a block are no longer than the block
+
+field-length : (n k : ℕ) (s : List ℕ) → length (getD (fieldsIn n s) k []) ≤ length s
+unfolding fieldsIn
+field-length zero k s = omega arith
+field-length (suc n) zero s = up-to-length 0 s
+field-length (suc n) (suc k) s = omega (arith, field-length n k (past 0 s), past-length 0 s)
 
 pub library-lengths : (b : List ℕ) → (length (libraryIn b .item) ≤ length b) × (length (libraryIn b .owner) ≤ length b)
-unfolding libraryIn payload fieldsIn
+unfolding libraryIn payload
 library-lengths b =
     let p : List ℕ = strip (drop 4 b) in
-    let r : List ℕ = drop 1 p in (
-      omega (arith, up-to-length 0 r, length-drop 1 p, strip-length (drop 4 b), length-drop 4 b),
-      omega (arith, up-to-length 0 (past 0 r), past-length 0 r, length-drop 1 p, strip-length (drop 4 b), length-drop 4 b),
-    )
+    let short : length (drop 1 p) ≤ length b = omega (arith, length-drop 1 p, strip-length (drop 4 b), length-drop 4 b) in
+    (omega (arith, field-length 2 0 (drop 1 p)), omega (arith, field-length 2 1 (drop 1 p)))
 
 pub library-tests : (b : List ℕ) → goodLibrary b ≡ true
     → (length (lastField b) ≤ 1) × (text (libraryIn b .item) ≡ true) × (isEmpty (libraryIn b .owner) || isOwner (libraryIn b .owner) ≡ true)

@@ -10,16 +10,15 @@ use lib.Dec.{eqb, leb}
 use lib.ListN.{length, drop, getD, length-append, List·getD-map}
 use borrow.Author.Tests.{eqb-false, eq-eqb, ne-eqb, le-leb, lt-leb, leb-true}
 use Rattle.format.specs.Bytes.{if_then_else_, isEmpty, all, le16, part, trim}
-use Rattle.format.specs.Text.{text}
 use Rattle.format.specs.Fields.{long, itemField, basicOwner, ownerField}
 use Rattle.format.specs.Chain.{separated, sealed, blockWith, Library, libraryFields, libraryBytes, blockOne}
-use Rattle.format.specs.Elements.{numbers, placeIn, place, slot, shape, value, clash}
+use Rattle.format.specs.Elements.{numbers, placeIn, place, slot, value, clash}
 use Rattle.format.specs.Layout.{ownerWidth, ownerOf, usageOf, library, firstByte, front, basic, laidOut, hasLayout}
 use Rattle.format.specs.Pieces.{stored}
 use Rattle.format.proofs.Tests.{and-l, and-r, and-i, or-false, bytes-at}
 use Rattle.format.proofs.Strings.{nil-of, empty-length, trim-other}
 use Rattle.format.proofs.Slots.{values-length, values-at}
-use Rattle.format.proofs.Values.{value-short, value-text, value-isil, value-alternative, value-usage, value-set, owner-either}
+use Rattle.format.proofs.Values.{value-short, value-isil, value-alternative, value-usage, value-set, owner-either}
 use Rattle.format.proofs.Blocks.{sealed-length}
 use Rattle.format.proofs.Layouts.{owner-length, basic-length}
 use Rattle.format.proofs.Pieces.{stored-none}

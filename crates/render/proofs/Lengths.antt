@@ -8,12 +8,10 @@ use native.Mathlib.Omega.{arith}
 use lib.ListN.{length, getD, take, drop, set, drop-of-length-le}
 use lib.Seq.{drop-cons, sets-eq}
 use borrow.Author.Tests.{ne-eqb}
-use Rattle.format.specs.Bytes.{le16, joined, part}
+use Rattle.format.specs.Bytes.{le16, joined}
 use Rattle.format.specs.Sheet.{heads, entriesAt, carriedEntries}
 use Rattle.format.specs.Pieces.{stored}
 use Rattle.render.specs.Rendering.{headOf, headsBy, sumBy}
-use Rattle.rows.specs.Rows.{slotsAt, Stands, Row}
-use Rattle.rows.proofs.Rows.{row-lengths, row-at}
 
 -- ---- sums
 

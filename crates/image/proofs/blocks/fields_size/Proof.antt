@@ -1,12 +1,11 @@
 -- `image::blocks::fields_size` meets its contract: the fields from place k on have `size` bytes.
 use mathlib.Core.Path.{_≡_, sym, ap, _∙_}
 use mathlib.Core.Logic.{_⊎_, inl, inr, ⊎-elim}
-use Prim.Native.Nat.{ℕ, suc, _+_, _-_, _*_, _≤_, _<_}
+use Prim.Native.Nat.{ℕ, _+_, _-_, _*_, _≤_}
 use native.Mathlib.Omega.{arith}
 use mathlib.Core.List.{List}
 use lib.ListN.{length, getD, drop, drop-of-length-le}
 use borrow.Author.Needs.{needs}
-use borrow.Author.Tests.{eq-eqb, ne-eqb}
 use Rattle.format.proofs.Tests.{bytes-at}
 use Rattle.image.specs.Laying.{fieldsSize}
 use Rattle.image.proofs.Contents.{size-turn}

@@ -1,5 +1,5 @@
 -- `image::blocks::seal_block` meets its contract: length, ID and checksum come in the place of the first, second and fourth byte.
-use mathlib.Core.Path.{_≡_, sym, ap, _∙_}
+use mathlib.Core.Path.{_≡_, ap, _∙_}
 use Prim.Native.Nat.{ℕ, _+_, _-_, _≤_}
 use native.Mathlib.Nat.{add-zero}
 use native.Mathlib.Omega.{arith}
@@ -7,7 +7,7 @@ use mathlib.Core.List.{List, [], _∷_, _++_}
 use lib.ListN.{length, take, drop, set, length-set}
 use lib.Bits.{bitXor, xor-zero-l}
 use borrow.Author.Needs.{needs}
-use Rattle.format.specs.Bytes.{le16, xorAll}
+use Rattle.format.specs.Bytes.{xorAll}
 use Rattle.format.specs.Chain.{sealed}
 use Rattle.format.proofs.Strings.{le16-byte}
 use Rattle.image.specs.Laying.{On}
