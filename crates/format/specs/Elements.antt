@@ -48,9 +48,9 @@ optional n f = record { number = n; required = false; shape = f }
 abbrev always : ℕ → (List ℕ → Bool) → Row
 always n f = record { number = n; required = true; shape = f }
 
--- the numbers rise; 255, the carried blocks, is apart
-abbrev pub table : List Row
-table =
+-- the elements that stand at most once, rising
+abbrev pub elements : List Row
+elements =
     optional 1 someText ∷
     optional 3 isil ∷
     always 4 setInfo ∷
@@ -60,20 +60,24 @@ table =
     optional 23 alternative ∷
     []
 
+-- and the carried blocks
+abbrev pub table : List Row
+table = elements ++ optional 255 carriable ∷ []
+
 -- what is true of the row with a number; of a number without a row, nothing is
 abbrev pub rowIs : (Row → Bool) → List Row → ℕ → Bool
 rowIs f [] n = false
 rowIs f (r ∷ rs) n = if eqb n (r .number) then f r else rowIs f rs n
 
 unfoldable pub numbers : List ℕ
-numbers = map (λ r. r .number) table
+numbers = map (λ r. r .number) elements
 
 abbrev pub required : ℕ → Bool
 required n = rowIs (λ r. r .required) table n
 
 -- an unknown number has no form
 unfoldable pub shape : ℕ → List ℕ → Bool
-shape n s = rowIs (λ r. r .shape s) (table ++ optional 255 carriable ∷ []) n
+shape n s = rowIs (λ r. r .shape s) table n
 
 -- a sheet gives an element's length one byte
 unfoldable pub form : ℕ → List ℕ → Bool
