@@ -11,7 +11,7 @@ use borrow.Author.Tests.{eqb-true, ne-eqb, le-leb, lt-leb, leb-true}
 use Rattle.format.specs.Bytes.{all}
 use Rattle.format.specs.Elements.{table, required, shape, form, value, known}
 use Rattle.format.proofs.Tests.{and-no, or-inv, same-truth}
-use Rattle.format.proofs.Slots.{row-of, form-row}
+use Rattle.format.proofs.Slots.{kind-of, form-kind}
 
 -- ---- shapes and forms
 
@@ -39,7 +39,7 @@ four-or-five : (n : ℕ) → eqb n 4 || eqb n 5 ≡ required n
 unfolding all
 four-or-five n =
     same-truth (eqb n 4 || eqb n 5) (required n) (λ e. elim (or-inv (eqb n 4) (eqb n 5) e) [ inl q ↦ rw (eqb-true n 4 q) refl | inr q ↦ rw (eqb-true n 5 q) refl ])
-    (λ e. let r = row-of (λ r. r .required) (λ r. not (r .required) || (eqb (r .number) 4 || eqb (r .number) 5)) table n e refl in rw (r .1) (rw (r .2) at (r .3)))
+    (λ e. let r = kind-of (λ r. r .required) (λ r. not (r .required) || (eqb (r .number) 4 || eqb (r .number) 5)) table n e refl in rw (r .1) (rw (r .2) at (r .3)))
 
 -- no bytes are a value of a number that may be absent
 pub removing : (n : ℕ) (s : List ℕ) → known n ≡ true → length s ≡ 0 → not (eqb n 4 || eqb n 5) ≡ known n && value n s
@@ -56,4 +56,4 @@ setting n (x ∷ s) k h = sym (rw k)
 -- a number with a form is a byte
 pub form-byte : (n : ℕ) (s : List ℕ) → form n s ≡ true → n ≤ 255
 unfolding all
-form-byte n s e = let r = form-row n s e (λ r. leb (r .number) 255) refl in rw (r .1) (leb-true (r .0 .number) 255 (r .3))
+form-byte n s e = let r = form-kind n s e (λ r. leb (r .number) 255) refl in rw (r .1) (leb-true (r .0 .number) 255 (r .3))

@@ -1,4 +1,5 @@
 // Judging the elements of a sheet: document 01, "Elements". The slices are lent, nothing is copied or changed.
+use rows::PLACES;
 ghost use mathlib.Core.Path.{_≡_};
 ghost use mathlib.Core.Bool.{_&&_};
 ghost use Prim.Native.Nat.{_<_};
@@ -92,7 +93,7 @@ fn has_form(number: u32, value: &[u8]) -> bool
 fn known(number: u32) -> bool
     ensures { λ r. ⌜ r ≡ known number ⌝ }
 {
-    rows::place_of(number) < 7
+    rows::place_of(number) < PLACES
 }
 
 // Have the bytes the form of an element's number in a sheet; 255 is a carried block.

@@ -16,7 +16,7 @@ use Rattle.format.specs.Elements.{Content, numbers, required, setInfo, s
 use Rattle.format.specs.Sheet.{Entry, risingFrom, rising, find, carriedIn, contentOf, formed, present, goodValues, entriesAt, carriedEntries, entries}
 use Rattle.format.proofs.Tests.{never, and-l, and-r, and-i, not-t, or-inv, or-l, or-r, all-mono}
 use Rattle.format.proofs.Values.{required-shape}
-use Rattle.format.proofs.Slots.{form-row, values-length, sound-parts, parts-sound}
+use Rattle.format.proofs.Slots.{form-kind, values-length, sound-parts, parts-sound}
 
 -- ---- what a form says of its number and of its bytes
 
@@ -27,11 +27,11 @@ isIn (n ∷ ns) m = eqb m n || isIn ns m
 
 form-in : (n : ℕ) (s : List ℕ) → form n s ≡ true → isIn numbers n ≡ true
 unfolding isIn numbers all
-form-in n s e = let r = form-row n s e (λ r. isIn numbers (r .number)) refl in ap (isIn numbers) (r .1) ∙ r .3
+form-in n s e = let r = form-kind n s e (λ r. isIn numbers (r .number)) refl in ap (isIn numbers) (r .1) ∙ r .3
 
 form-full : (n : ℕ) (s : List ℕ) → form n s ≡ true → isEmpty s ≡ false
 unfolding isil isilOf upTo past all setInfo alternative carriable wellFormed named summed
-form-full n [] e = let r = form-row n [] e (λ r. not (r .shape [])) refl in never (cc (r .2, r .3))
+form-full n [] e = let r = form-kind n [] e (λ r. not (r .shape [])) refl in never (cc (r .2, r .3))
 form-full n (x ∷ s) e = refl
 
 -- ---- entries in order

@@ -11,7 +11,7 @@ use lib.ListN.{length, getD, set}
 use lib.Seq.{set-set, set-getD}
 use borrow.Author.Tests.{eqb-true, ltb-true}
 use Rattle.format.specs.Bytes.{if_then_else_, isEmpty, all}
-use Rattle.format.specs.Elements.{Content, Row, table, rowIs, numbers, placeIn, place, known, el, put, shape, form, value, clash, valuesAt, sound}
+use Rattle.format.specs.Elements.{Content, Kind, table, kindIs, numbers, placeIn, place, known, el, put, shape, form, value, clash, valuesAt, sound}
 use Rattle.format.specs.Fields.{long}
 use Rattle.format.specs.Chain.{carriable}
 use Rattle.format.proofs.Tests.{never, and-l, and-r, and-i, not-t, or-false, if-inv, same-truth, all-mono, bytes-at}
@@ -52,18 +52,18 @@ place-number (m ∷ ns) n h = go (eqb m n) refl (λ k. place-number ns n k) h
 -- ---- the table's rows
 
 -- what is true of a number's row is true of a row that has the number; and so is what is true of every row
-pub row-of : (f g : Row → Bool) (rs : List Row) (n : ℕ) → rowIs f rs n ≡ true → all g rs ≡ true
-    → (r : Row) × (n ≡ r .number) × (f r ≡ true) × (g r ≡ true)
+pub kind-of : (f g : Kind → Bool) (rs : List Kind) (n : ℕ) → kindIs f rs n ≡ true → all g rs ≡ true
+    → (r : Kind) × (n ≡ r .number) × (f r ≡ true) × (g r ≡ true)
 unfolding all
-row-of f g [] n e a = never (cc)
-row-of f g (r ∷ rs) n e a = elim (if-inv (eqb n (r .number)) (f r) (rowIs f rs n) e) [
+kind-of f g [] n e a = never (cc)
+kind-of f g (r ∷ rs) n e a = elim (if-inv (eqb n (r .number)) (f r) (kindIs f rs n) e) [
   | inl q ↦ (r, eqb-true n (r .number) (q .0), q .1, and-l (g r) (all g rs) a)
-  | inr q ↦ row-of f g rs n (q .1) (and-r (g r) (all g rs) a)
+  | inr q ↦ kind-of f g rs n (q .1) (and-r (g r) (all g rs) a)
 ]
 
-pub form-row : (n : ℕ) (s : List ℕ) → form n s ≡ true → (g : Row → Bool) → all g table ≡ true → (r : Row) × (n ≡ r .number) × (r .shape s ≡ true) × (g r ≡ true)
+pub form-kind : (n : ℕ) (s : List ℕ) → form n s ≡ true → (g : Kind → Bool) → all g table ≡ true → (r : Kind) × (n ≡ r .number) × (r .shape s ≡ true) × (g r ≡ true)
 unfolding form shape
-form-row n s e g a = row-of (λ r. r .shape s) g table n (and-l (shape n s) (leb (length s) 255) e) a
+form-kind n s e g a = kind-of (λ r. r .shape s) g table n (and-l (shape n s) (leb (length s) 255) e) a
 
 -- ---- a sound content
 

@@ -1,5 +1,5 @@
 -- The elements: document 01, "Elements".
-use Prim.Native.Nat.{ℕ, suc, _+_}
+use Prim.Native.Nat.{ℕ, suc}
 use mathlib.Core.Bool.{Bool, true, false, not, _&&_, _||_}
 use mathlib.Core.List.{List, [], _∷_, _++_, map}
 use lib.ListN.{length, getD, set}
@@ -23,33 +23,33 @@ setBytes parts ordinal = le16 parts ++ le16 ordinal
 unfoldable pub setInfo : List ℕ → Bool
 setInfo s = eqb (length s) 4 && leb (partsOf s) 255 && leb (ordinalOf s) 255 && leb (ordinalOf s) (partsOf s)
 
+-- text that is not empty
 abbrev pub someText : List ℕ → Bool
 someText s = not (isEmpty s) && text s
 
--- element 5
 abbrev pub oneByte : List ℕ → Bool
 oneByte s = eqb (length s) 1
 
--- element 19
+-- one byte, not 00
 abbrev pub media : List ℕ → Bool
 media s = oneByte s && not (eqb (getD s 0 0) 0)
 
 -- ---- the table
 
--- a row: the number, whether it is always present, the form of its bytes in a sheet
-pub record Row : Type 0 where
+-- a row: an element's number, whether it is always present, and the form of its bytes in a sheet
+pub record Kind : Type 0 where
   pub number : ℕ
   pub required : Bool
   pub shape : List ℕ → Bool
 
-abbrev optional : ℕ → (List ℕ → Bool) → Row
+abbrev optional : ℕ → (List ℕ → Bool) → Kind
 optional n f = record { number = n; required = false; shape = f }
 
-abbrev always : ℕ → (List ℕ → Bool) → Row
+abbrev always : ℕ → (List ℕ → Bool) → Kind
 always n f = record { number = n; required = true; shape = f }
 
--- the elements that stand at most once, rising
-abbrev pub elements : List Row
+-- the rows of what stands at most once, with rising numbers
+abbrev pub elements : List Kind
 elements =
     optional 1 someText ∷
     optional 3 isil ∷
@@ -60,24 +60,27 @@ elements =
     optional 23 alternative ∷
     []
 
--- and the carried blocks
-abbrev pub table : List Row
-table = elements ++ optional 255 carriable ∷ []
-
--- what is true of the row with a number; of a number without a row, nothing is
-abbrev pub rowIs : (Row → Bool) → List Row → ℕ → Bool
-rowIs f [] n = false
-rowIs f (r ∷ rs) n = if eqb n (r .number) then f r else rowIs f rs n
+-- how many they are
+abbrev pub places : ℕ
+places = length elements
 
 unfoldable pub numbers : List ℕ
 numbers = map (λ r. r .number) elements
 
-abbrev pub required : ℕ → Bool
-required n = rowIs (λ r. r .required) table n
+-- all rows: the last one is that of the carried blocks
+abbrev pub table : List Kind
+table = elements ++ optional 255 carriable ∷ []
 
--- an unknown number has no form
+-- what is true of the row with a number; of an unknown number nothing is
+abbrev pub kindIs : (Kind → Bool) → List Kind → ℕ → Bool
+kindIs f [] n = false
+kindIs f (r ∷ rs) n = if eqb n (r .number) then f r else kindIs f rs n
+
+abbrev pub required : ℕ → Bool
+required n = kindIs (λ r. r .required) table n
+
 unfoldable pub shape : ℕ → List ℕ → Bool
-shape n s = rowIs (λ r. r .shape s) table n
+shape n s = kindIs (λ r. r .shape s) table n
 
 -- a sheet gives an element's length one byte
 unfoldable pub form : ℕ → List ℕ → Bool

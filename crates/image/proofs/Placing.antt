@@ -13,7 +13,7 @@ use Rattle.format.specs.Bytes.{if_then_else_, isEmpty, le16, part}
 use Rattle.format.specs.Text.{text}
 use Rattle.format.specs.Fields.{long, itemField, basicOwner, ownerField}
 use Rattle.format.specs.Chain.{Library, blockOne}
-use Rattle.format.specs.Elements.{numbers, placeIn, place, slot, shape, value, clash}
+use Rattle.format.specs.Elements.{places, numbers, placeIn, place, slot, shape, value, clash}
 use Rattle.format.specs.Layout.{ownerWidth, ownerOf, library, firstByte, front, basic, laidOut, hasLayout}
 use Rattle.format.specs.Pieces.{stored}
 use Rattle.format.proofs.Tests.{and-l, and-r, or-false}
@@ -72,17 +72,17 @@ module _ {src made ats lens d : List ℕ} (p : Draftable src made ats lens d) wh
   pub sized : Lengths ss lens
   sized = lengths-are src made ats lens (p .row)
 
-  seven : length ats ≡ 7
+  each : length ats ≡ places
   unfolding numbers
-  seven = sym (slots-length (src ++ made) ats lens (row-lengths src made ats lens (p .row))) ∙ values-length numbers ss (p .values)
+  each = sym (slots-length (src ++ made) ats lens (row-lengths src made ats lens (p .row))) ∙ values-length numbers ss (p .values)
 
-  pub stands : (k : ℕ) → k < 7 → (k < 7) × Stands src made (getD ats k 0) (getD lens k 0)
-  stands k h = (h, row-at src made ats lens (p .row) k (omega (arith, seven)))
+  pub stands : (k : ℕ) → k < places → (k < places) × Stands src made (getD ats k 0) (getD lens k 0)
+  stands k h = (h, row-at src made ats lens (p .row) k (omega (arith, each)))
 
-  pub slot-is : (k : ℕ) → k < 7 → part (getD ats k 0) (getD lens k 0) (src ++ made) ≡ getD ss k []
-  slot-is k h = sym (slot-at (src ++ made) ats lens (row-lengths src made ats lens (p .row)) k (omega (arith, seven)))
+  pub slot-is : (k : ℕ) → k < places → part (getD ats k 0) (getD lens k 0) (src ++ made) ≡ getD ss k []
+  slot-is k h = sym (slot-at (src ++ made) ats lens (row-lengths src made ats lens (p .row)) k (omega (arith, each)))
 
-  value-at : (k : ℕ) → k < 7 → value (getD numbers k 0) (getD ss k []) ≡ true
+  value-at : (k : ℕ) → k < places → value (getD numbers k 0) (getD ss k []) ≡ true
   unfolding numbers
   value-at k h = values-at numbers ss (p .values) k h
 

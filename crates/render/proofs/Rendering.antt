@@ -11,7 +11,7 @@ use lib.Seq.{sets-eq}
 use borrow.Author.Tests.{ne-eqb, le-leb, leb-true}
 use Rattle.format.specs.Answers.{got, refused, plain, Step, need, inOrder}
 use Rattle.format.specs.Bytes.{le16, joined, filled}
-use Rattle.format.specs.Elements.{numbers}
+use Rattle.format.specs.Elements.{places, numbers}
 use Rattle.format.specs.Sheet.{Entry, heads, bodies, bodyAt, sheetOf, offsetsFit, entriesAt, carriedEntries, entries}
 use Rattle.format.specs.declared.NumberAnswer.the-variants.{Done, Refused}
 use Rattle.format.proofs.Tests.{and-i}
@@ -74,10 +74,10 @@ offsets-fit at (e ∷ es) h =
 -- m elements of a row have bytes, k together
 pub record Counted (t made ats lens : List ℕ) (count size : ℕ) (blocks : List ℕ) (m k : ℕ) : Type 0 where
   pub given : Renderable t made ats lens count size blocks
-  pub seven : length lens ≡ 7
-  pub few : m ≤ 7
+  pub each : length lens ≡ places
+  pub few : m ≤ places
   pub elements : m ≡ countBy lens
-  pub small : k ≤ 1785
+  pub small : k ≤ 255 * places
   pub bytes : k ≡ sizeBy lens
 
 -- a whole chain has few carried blocks
@@ -120,7 +120,7 @@ module _ {t made ats lens : List ℕ} {count size : ℕ} {blocks : List ℕ} {m 
   unfolding numbers
   told =
       let l = row-lengths t made ats lens (x .given .row) in
-      let r = row-tell numbers slots (omega (arith, x .seven, slots-length (t ++ made) ats lens l)) in
+      let r = row-tell numbers slots (omega (arith, x .each, slots-length (t ++ made) ats lens l)) in
       (x .elements ∙ sym (ap countBy lengths) ∙ r .0, x .bytes ∙ sym (ap sizeBy lengths) ∙ r .1, r .2)
 
   entry-count : length all ≡ m + count
