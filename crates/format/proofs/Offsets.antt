@@ -23,7 +23,8 @@ use Rattle.format.proofs.Layouts.{size-most, fits-parts}
 use Rattle.format.proofs.Sound.{read-sound}
 use Rattle.format.proofs.Shorter.{others-le, blocks-total}
 
-fit-total : (at : ℕ) (es : List Entry) → at + length (bodies es) ≤ 65535 → offsetsFit at es ≡ true
+-- where the bodies end by 65,535 no offset passes that
+pub fit-total : (at : ℕ) (es : List Entry) → at + length (bodies es) ≤ 65535 → offsetsFit at es ≡ true
 unfolding offsetsFit bodies
 fit-total at [] h = refl
 fit-total at (e ∷ es) h =

@@ -35,7 +35,7 @@ unfolding value form
 value-short n [] v = omega arith
 value-short n (x ∷ s) v = leb-true (length (x ∷ s)) 255 (and-r (shape n (x ∷ s)) (leb (length (x ∷ s)) 255) v)
 
--- 1 and 22 are text
+-- what has the form of text
 pub value-text : (n : ℕ) (s : List ℕ) → shape n s ≡ someText s → value n s ≡ true → text s ≡ true
 value-text n s is v = elim (value-shape n s v) [ inl e ↦ rw e text-nil | inr e ↦ and-r (not (isEmpty s)) (text s) (sym is ∙ e) ]
 
