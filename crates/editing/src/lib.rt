@@ -5,6 +5,7 @@ use format::Refusal;
 use format::Stage;
 use look::Look;
 use look::View;
+use rows::PLACES;
 ghost use mathlib.Core.Path.{_≡_};
 ghost use mathlib.Core.Bool.{true, _&&_};
 ghost use mathlib.Core.List.{[], _∷_, _++_};
@@ -43,8 +44,8 @@ pub fn edit(tag: &mut [u8], locks: &[u8], number: u32, bytes: &[u8], old: &mut [
 fn own_stage<'a>(
     tag: &'a [u8],
     made: &'a [u8],
-    ats: &[usize; 7],
-    lens: &[usize; 7],
+    ats: &[usize; PLACES],
+    lens: &[usize; PLACES],
     view: View,
     draft: &mut [u8],
 ) -> Stage
@@ -89,8 +90,8 @@ fn put(
     number: u32,
     bytes: &[u8],
     n: usize,
-    ats: &mut [usize; 7],
-    lens: &mut [usize; 7],
+    ats: &mut [usize; PLACES],
+    lens: &mut [usize; PLACES],
     made: &mut [u8; 274],
 ) -> Part
     requires { ⌜ (known number ≡ true) × (length (now bytes) ≤ 255) × (n ≤ 2048) ⌝ }
@@ -122,8 +123,8 @@ fn edit_on(
     requires { ⌜ Fresh (now draft) (now tag) × Sized (now tag) (now locks) ⌝ }
     ensures { λ r. ⌜ Edits (now (tag .entry)) (now (locks .entry)) number (now (bytes .entry)) (now (old .entry)) r (now (tag .exit)) (now (old .exit)) ⌝ }
 {
-    let mut ats = [0usize; 7];
-    let mut lens = [0usize; 7];
+    let mut ats = [0usize; PLACES];
+    let mut lens = [0usize; PLACES];
     let mut seen = [0u8; 19];
     let looked = look::look_at(tag, &mut ats, &mut lens, &mut seen);
     let Look::Seen(view) = looked else {

@@ -1,14 +1,17 @@
 -- What shape and form a number asks for, and what may be set for it.
-use mathlib.Core.Path.{_≡_, refl, sym}
+use mathlib.Core.Path.{_≡_, refl, sym, ap, _∙_}
+use mathlib.Core.Logic.{inl, inr}
 use Prim.Native.Nat.{ℕ, _≤_, _<_}
 use native.Mathlib.Omega.{arith}
-use mathlib.Core.Bool.{Bool, true, false, not, _&&_, and-true}
+use mathlib.Core.Bool.{true, false, not, _&&_, _||_, and-true}
 use mathlib.Core.List.{List, [], _∷_}
-use lib.Dec.{leb}
+use lib.Dec.{eqb, leb}
 use lib.ListN.{length}
-use borrow.Author.Tests.{ne-eqb, le-leb, lt-leb, leb-true, leb-false}
-use Rattle.format.specs.Elements.{required, shape, form, value, known}
-use Rattle.format.proofs.Tests.{never, and-l, and-no}
+use borrow.Author.Tests.{eqb-true, ne-eqb, le-leb, lt-leb, leb-true}
+use Rattle.format.specs.Bytes.{all}
+use Rattle.format.specs.Elements.{table, required, shape, form, value, known}
+use Rattle.format.proofs.Tests.{and-no, or-inv, same-truth}
+use Rattle.format.proofs.Slots.{kind-of, form-kind}
 
 -- ---- shapes and forms
 
@@ -31,10 +34,17 @@ form-long n s h = sym (and-no (shape n s) (leb (length s) 255) (lt-leb (length s
 pub unknown-refused : (n : ℕ) (s : List ℕ) → known n ≡ false → false ≡ known n && value n s
 unknown-refused n s e = sym (rw e)
 
+-- the table's rows that are always present
+four-or-five : (n : ℕ) → eqb n 4 || eqb n 5 ≡ required n
+unfolding all
+four-or-five n =
+    same-truth (eqb n 4 || eqb n 5) (required n) (λ e. elim (or-inv (eqb n 4) (eqb n 5) e) [ inl q ↦ rw (eqb-true n 4 q) refl | inr q ↦ rw (eqb-true n 5 q) refl ])
+    (λ e. let r = kind-of (λ r. r .required) (λ r. not (r .required) || (eqb (r .number) 4 || eqb (r .number) 5)) table n e refl in rw (r .1) (rw (r .2) at (r .3)))
+
 -- no bytes are a value of a number that may be absent
-pub removing : (n : ℕ) (s : List ℕ) → known n ≡ true → length s ≡ 0 → not (required n) ≡ known n && value n s
+pub removing : (n : ℕ) (s : List ℕ) → known n ≡ true → length s ≡ 0 → not (eqb n 4 || eqb n 5) ≡ known n && value n s
 unfolding value
-removing n [] k e = sym (rw k)
+removing n [] k e = ap not (four-or-five n) ∙ sym (rw k)
 removing n (x ∷ s) k e = absurd (omega arith)
 
 -- others are a value where they have the number's form
@@ -45,13 +55,5 @@ setting n (x ∷ s) k h = sym (rw k)
 
 -- a number with a form is a byte
 pub form-byte : (n : ℕ) (s : List ℕ) → form n s ≡ true → n ≤ 255
-unfolding form
-form-byte n s e = go (leb n 255) refl
-  where
-    no : 255 < n → shape n s ≡ false
-    no h =
-        no-shape n s (λ q. omega (arith, q)) (λ q. omega (arith, q)) (λ q. omega (arith, q)) (λ q. omega (arith, q)) (λ q. omega (arith, q)) (λ q. omega (arith, q)) (λ q. omega (arith, q)) (λ q. omega (arith, q))
-
-    go : (t : Bool) → leb n 255 ≡ t → n ≤ 255
-    go true h = leb-true n 255 h
-    go false h = never (cc (and-l (shape n s) (leb (length s) 255) e, no (leb-false n 255 h)))
+unfolding all
+form-byte n s e = let r = form-kind n s e (λ r. leb (r .number) 255) refl in rw (r .1) (leb-true (r .0 .number) 255 (r .3))

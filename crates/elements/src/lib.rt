@@ -1,13 +1,14 @@
 // Judging the elements of a sheet: document 01, "Elements". The slices are lent, nothing is copied or changed.
+use rows::PLACES;
 ghost use mathlib.Core.Path.{_≡_};
 ghost use mathlib.Core.Bool.{_&&_};
 ghost use Prim.Native.Nat.{_<_};
 ghost use Rattle.format.specs.Chain.{carriable};
-ghost use Rattle.format.specs.Elements.{setInfo, shape, form, value, known};
+ghost use Rattle.format.specs.Elements.{setInfo, someText, media, shape, form, value, known};
 
-// Is it text, and not empty: elements 1 and 22.
+// Is it text, and not empty.
 fn some_text(s: &[u8]) -> bool
-    ensures { λ r. ⌜ r ≡ shape 1 (now (s .entry)) ⌝ }
+    ensures { λ r. ⌜ r ≡ someText (now (s .entry)) ⌝ }
 {
     if s.len() == 0 {
         return false;
@@ -35,7 +36,7 @@ fn set_info(s: &[u8]) -> bool
 
 // Is it a media format, element 19: one byte, not 00.
 fn media(s: &[u8]) -> bool
-    ensures { λ r. ⌜ r ≡ shape 19 (now (s .entry)) ⌝ }
+    ensures { λ r. ⌜ r ≡ media (now (s .entry)) ⌝ }
 {
     if s.len() != 1 {
         return false;
@@ -92,7 +93,7 @@ fn has_form(number: u32, value: &[u8]) -> bool
 fn known(number: u32) -> bool
     ensures { λ r. ⌜ r ≡ known number ⌝ }
 {
-    rows::place_of(number) < 7
+    rows::place_of(number) < PLACES
 }
 
 // Have the bytes the form of an element's number in a sheet; 255 is a carried block.

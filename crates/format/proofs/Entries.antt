@@ -6,7 +6,7 @@ use native.Mathlib.Omega.{arith}
 use native.Mathlib.Nat.{le-refl, le-of-eq}
 use mathlib.Core.Bool.{Bool, true, false, not, _&&_, _||_}
 use mathlib.Core.List.{List, [], _∷_, _++_, map}
-use lib.Dec.{eqb, leb, ltb}
+use lib.Dec.{eqb, ltb}
 use lib.ListN.{length}
 use borrow.Author.Tests.{eqb-true, eq-eqb, ne-eqb, ltb-true, lt-ltb}
 use Rattle.format.specs.Bytes.{if_then_else_, isEmpty, all, upTo, past}
@@ -16,7 +16,7 @@ use Rattle.format.specs.Elements.{Content, numbers, required, setInfo, s
 use Rattle.format.specs.Sheet.{Entry, risingFrom, rising, find, carriedIn, contentOf, formed, present, goodValues, entriesAt, carriedEntries, entries}
 use Rattle.format.proofs.Tests.{never, and-l, and-r, and-i, not-t, or-inv, or-l, or-r, all-mono}
 use Rattle.format.proofs.Values.{required-shape}
-use Rattle.format.proofs.Slots.{values-length, sound-parts, parts-sound}
+use Rattle.format.proofs.Slots.{form-kind, values-length, sound-parts, parts-sound}
 
 -- ---- what a form says of its number and of its bytes
 
@@ -25,30 +25,13 @@ isIn : List ℕ → ℕ → Bool
 isIn [] m = eqb m 255
 isIn (n ∷ ns) m = eqb m n || isIn ns m
 
-if-or : (t a b z : Bool) → (if t then a else b) ≡ true → (b ≡ true → z ≡ true) → t || z ≡ true
-if-or true a b z e f = refl
-if-or false a b z e f = f e
-
 form-in : (n : ℕ) (s : List ℕ) → form n s ≡ true → isIn numbers n ≡ true
-unfolding form shape isIn numbers
-form-in n s e =
-    if-or (eqb n 1) _ _ _ (and-l (shape n s) (leb (length s) 255) e) λ e. if-or (eqb n 3) _ _ _ e λ e. if-or (eqb n 4) _ _ _ e λ e. if-or (eqb n 5) _ _ _ e λ e.
-    if-or (eqb n 19) _ _ _ e λ e. if-or (eqb n 22) _ _ _ e λ e. if-or (eqb n 23) _ _ _ e λ e. last (eqb n 255) _ e
-  where
-    last : (t a : Bool) → (if t then a else false) ≡ true → t ≡ true
-    last true a e = refl
-    last false a e = e
-
-if-no : (t b : Bool) → b ≡ false → (if t then false else b) ≡ false
-if-no true b e = refl
-if-no false b e = e
+unfolding isIn numbers all
+form-in n s e = let r = form-kind n s e (λ r. isIn numbers (r .number)) refl in ap (isIn numbers) (r .1) ∙ r .3
 
 form-full : (n : ℕ) (s : List ℕ) → form n s ≡ true → isEmpty s ≡ false
-unfolding form shape isil isilOf upTo past all setInfo alternative carriable wellFormed named summed
-form-full n [] e =
-    let no : shape n [] ≡ false =
-    if-no (eqb n 1) _ (if-no (eqb n 3) _ (if-no (eqb n 4) _ (if-no (eqb n 5) _ (if-no (eqb n 19) _ (if-no (eqb n 22) _ (if-no (eqb n 23) _ (if-no (eqb n 255) _ refl))))))) in
-    never (cc (and-l (shape n []) true e))
+unfolding isil isilOf upTo past all setInfo alternative carriable wellFormed named summed
+form-full n [] e = let r = form-kind n [] e (λ r. not (r .shape [])) refl in never (cc (r .2, r .3))
 form-full n (x ∷ s) e = refl
 
 -- ---- entries in order

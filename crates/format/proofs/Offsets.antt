@@ -22,7 +22,8 @@ use Rattle.format.proofs.Layouts.{size-most, fits-parts}
 use Rattle.format.proofs.Sound.{read-sound}
 use Rattle.format.proofs.Shorter.{others-le, blocks-total}
 
-fit-total : (at : ℕ) (es : List Entry) → at + length (bodies es) ≤ 65535 → offsetsFit at es ≡ true
+-- where the bodies end by 65,535 no offset passes that
+pub fit-total : (at : ℕ) (es : List Entry) → at + length (bodies es) ≤ 65535 → offsetsFit at es ≡ true
 unfolding offsetsFit bodies
 fit-total at [] h = refl
 fit-total at (e ∷ es) h =
@@ -68,14 +69,15 @@ module _ (c : Content) (s : sound c ≡ true) (j : length (joined (c .carried)) 
       let k = sound-parts c s in
       let a : List Entry = entriesAt numbers (c .slots) in
       let b : List Entry = carriedEntries (c .carried) in
-      let st = slots-total numbers (c .slots) (k .values) in
-      let ct = carried-total (c .carried) in
-      total (length (sheetOf (a ++ b))) (length (a ++ b)) (length (bodies (a ++ b))) (length a) (length b) (length (bodies a)) (length (bodies b))
-      (length (c .carried)) (length (joined (c .carried)))
-      (length-sheet (a ++ b)) (length-append a b) (bodies-append a b) (st .1) (st .0) (ct .1) (ct .0) (carried-count (c .carried) (k .blocks)) j
-    where
-      total : (l n m na nb ma mb nc jc : ℕ) → l ≡ 2 + 4 * n + m → n ≡ na + nb → m ≡ ma + mb → na ≤ 7 → ma ≤ 1785 → nb ≡ nc → mb ≡ jc → 3 * nc ≤ jc → jc ≤ 2048 → l ≤ 8192
-      total l n m na nb ma mb nc jc s a b c d e f g h = omega arith
+      omega (
+        arith,
+        length-sheet (a ++ b),
+        length-append a b,
+        bodies-append a b,
+        slots-total numbers (c .slots) (k .values),
+        carried-total (c .carried),
+        carried-count (c .carried) (k .blocks),
+      )
 
   -- so no offset passes 65,535
   pub content-fitting : fitting (entries c) ≡ true

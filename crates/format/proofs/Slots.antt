@@ -1,19 +1,21 @@
 -- A content's strings: a value for each number of the table.
-use mathlib.Core.Path.{_≡_, refl, ap, _∙_}
+use mathlib.Core.Path.{_≡_, refl, sym, ap, _∙_}
+use mathlib.Core.Logic.{inl, inr}
 use Prim.Native.Nat.{ℕ, zero, suc, _<_}
 use native.Mathlib.Nat.{le-of-suc-le-suc, not-suc-le-zero}
 use native.Mathlib.Omega.{arith}
 use mathlib.Core.Bool.{Bool, true, false, not, _&&_}
-use mathlib.Core.List.{List, [], _∷_}
+use mathlib.Core.List.{List, [], _∷_, map}
 use lib.Dec.{eqb, leb}
 use lib.ListN.{length, getD, set}
 use lib.Seq.{set-set, set-getD}
-use borrow.Author.Tests.{eqb-true, ne-eqb, ltb-true}
+use borrow.Author.Tests.{eqb-true, ltb-true}
 use Rattle.format.specs.Bytes.{if_then_else_, isEmpty, all}
-use Rattle.format.specs.Elements.{Content, numbers, placeIn, place, known, el, put, shape, form, value, clash, valuesAt, sound}
+use Rattle.format.specs.Elements.{Content, Kind, table, kindIs, numbers, placeIn, place, known, el, put, shape, form, value, clash, valuesAt, sound}
 use Rattle.format.specs.Fields.{long}
 use Rattle.format.specs.Chain.{carriable}
-use Rattle.format.proofs.Tests.{never, and-l, and-r, and-i, not-t, or-false, all-mono}
+use Rattle.format.proofs.Tests.{never, and-l, and-r, and-i, not-t, or-false, if-inv, same-truth, all-mono, bytes-at}
+use Rattle.format.proofs.Strings.{all-opened}
 
 pub values-length : (ns : List ℕ) (ss : List (List ℕ)) → valuesAt ns ss ≡ true → length ss ≡ length ns
 unfolding valuesAt
@@ -47,28 +49,30 @@ place-number (m ∷ ns) n h = go (eqb m n) refl (λ k. place-number ns n k) h
     go true e ih k = eqb-true m n e
     go false e ih k = ih (le-of-suc-le-suc k)
 
+-- ---- the table's rows
+
+-- what is true of a number's row is true of a row that has the number; and so is what is true of every row
+pub kind-of : (f g : Kind → Bool) (rs : List Kind) (n : ℕ) → kindIs f rs n ≡ true → all g rs ≡ true
+    → (r : Kind) × (n ≡ r .number) × (f r ≡ true) × (g r ≡ true)
+unfolding all
+kind-of f g [] n e a = never (cc)
+kind-of f g (r ∷ rs) n e a = elim (if-inv (eqb n (r .number)) (f r) (kindIs f rs n) e) [
+  | inl q ↦ (r, eqb-true n (r .number) (q .0), q .1, and-l (g r) (all g rs) a)
+  | inr q ↦ kind-of f g rs n (q .1) (and-r (g r) (all g rs) a)
+]
+
+pub form-kind : (n : ℕ) (s : List ℕ) → form n s ≡ true → (g : Kind → Bool) → all g table ≡ true → (r : Kind) × (n ≡ r .number) × (r .shape s ≡ true) × (g r ≡ true)
+unfolding form shape
+form-kind n s e g a = kind-of (λ r. r .shape s) g table n (and-l (shape n s) (leb (length s) 255) e) a
+
 -- ---- a sound content
 
-abbrev pub listed : Content → Content
-listed c = record { slots = el c 1 ∷ el c 3 ∷ el c 4 ∷ el c 5 ∷ el c 19 ∷ el c 22 ∷ el c 23 ∷ []; carried = c .carried }
-
 pub record Facts (c : Content) : Type 0 where
-  pub eta : listed c ≡ c
+  pub eta : record { slots = map (el c) numbers; carried = c .carried } ≡ c
   pub values : (n : ℕ) → known n ≡ true → value n (el c n) ≡ true
   pub owners : not (isEmpty (el c 3)) && not (isEmpty (el c 23)) ≡ false
   pub items : not (isEmpty (el c 22)) && long (el c 1) ≡ false
   pub rest : all carriable (c .carried) ≡ true
-
-seven : (l : List (List ℕ)) → length l ≡ 7 → getD l 0 [] ∷ getD l 1 [] ∷ getD l 2 [] ∷ getD l 3 [] ∷ getD l 4 [] ∷ getD l 5 [] ∷ getD l 6 [] ∷ [] ≡ l
-seven [] e = absurd (omega arith)
-seven (a ∷ []) e = absurd (omega arith)
-seven (a ∷ b ∷ []) e = absurd (omega arith)
-seven (a ∷ b ∷ c ∷ []) e = absurd (omega arith)
-seven (a ∷ b ∷ c ∷ d ∷ []) e = absurd (omega arith)
-seven (a ∷ b ∷ c ∷ d ∷ f ∷ []) e = absurd (omega arith)
-seven (a ∷ b ∷ c ∷ d ∷ f ∷ g ∷ []) e = absurd (omega arith)
-seven (a ∷ b ∷ c ∷ d ∷ f ∷ g ∷ h ∷ []) e = refl
-seven (a ∷ b ∷ c ∷ d ∷ f ∷ g ∷ h ∷ i ∷ l) e = absurd (omega arith)
 
 pub form-carriable : (b : List ℕ) → form 255 b ≡ true → carriable b ≡ true
 unfolding form shape
@@ -106,7 +110,7 @@ sound-facts c e =
     let k = sound-parts c e in
     let cl = or-false _ _ (k .clear) in
     record {
-      eta = ap (λ (l : List (List ℕ)). record { slots = l; carried = c .carried }) (seven (c .slots) (values-length numbers (c .slots) (k .values)));
+      eta = ap (λ (l : List (List ℕ)). record { slots = l; carried = c .carried }) (sym (all-opened [] _ (c .slots) (values-length numbers (c .slots) (k .values))));
       values = value-of c e;
       owners = cl .0;
       items = cl .1;
@@ -117,17 +121,8 @@ sound-facts c e =
 
 -- no number above 255 is one of the table
 pub wide-unknown : (n : ℕ) → 255 < n → known n ≡ false
-unfolding known place placeIn numbers
-wide-unknown n h =
-    rw (
-      ne-eqb 1 n (λ e. omega arith),
-      ne-eqb 3 n (λ e. omega arith),
-      ne-eqb 4 n (λ e. omega arith),
-      ne-eqb 5 n (λ e. omega arith),
-      ne-eqb 19 n (λ e. omega arith),
-      ne-eqb 22 n (λ e. omega arith),
-      ne-eqb 23 n (λ e. omega arith),
-    )
+unfolding numbers all
+wide-unknown n h = same-truth (known n) false (λ k. absurd (omega (arith, known-at n k .1, bytes-at (place n) numbers refl))) (λ e. never (cc))
 
 module _ (c : Content) (sc : sound c ≡ true) (n : ℕ) (kn : known n ≡ true) where
   pub put-sound : (s : List ℕ) → value n s ≡ true → clash (put c n s .slots) ≡ false → sound (put c n s) ≡ true

@@ -36,12 +36,19 @@ pub nil-of : {A : Type 0} (l : List A) → length l ≡ 0 → l ≡ []
 nil-of [] e = refl
 nil-of (x ∷ l) e = absurd (omega arith)
 
-pub four-of : (s : List ℕ) → 4 ≤ length s → s ≡ getD s 0 0 ∷ getD s 1 0 ∷ getD s 2 0 ∷ getD s 3 0 ∷ drop 4 s
-four-of [] l = absurd (omega arith)
-four-of (a ∷ []) l = absurd (omega arith)
-four-of (a ∷ b ∷ []) l = absurd (omega arith)
-four-of (a ∷ b ∷ c ∷ []) l = absurd (omega arith)
-four-of (a ∷ b ∷ c ∷ d ∷ s) l = refl
+-- what stands at the first k places, and then r
+abbrev pub firsts : {A : Type 0} → ℕ → (ℕ → A) → List A → List A
+firsts zero f r = r
+firsts (suc k) f r = f 0 ∷ firsts k (λ i. f (suc i)) r
+
+pub opened : {A : Type 0} (x : A) (k : ℕ) (l : List A) → k ≤ length l → l ≡ firsts k (λ i. getD l i x) (drop k l)
+opened x zero l h = refl
+opened x (suc k) [] h = absurd (omega arith)
+opened x (suc k) (y ∷ l) h = ap (λ (r : List _). y ∷ r) (opened x k l (omega arith))
+
+-- of a list of that length, nothing is left
+pub all-opened : {A : Type 0} (x : A) (k : ℕ) (l : List A) → length l ≡ k → l ≡ firsts k (λ i. getD l i x) []
+all-opened x k l e = opened x k l (omega arith) ∙ ap (firsts k (λ i. getD l i x)) (nil-of (drop k l) (omega (arith, length-drop k l)))
 
 pub empty-of : {A : Type 0} (l : List A) → isEmpty l ≡ true → l ≡ []
 empty-of [] e = refl

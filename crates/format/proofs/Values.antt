@@ -1,20 +1,20 @@
 -- What the value of each element is, and how the elements come back from the fields that they are placed in.
-use mathlib.Core.Path.{_≡_, refl, sym, ap, ap₂, _∙_}
+use mathlib.Core.Path.{_≡_, refl, sym, ap₂, _∙_}
 use mathlib.Core.Logic.{_⊎_, inl, inr}
 use Prim.Native.Nat.{ℕ, _+_, _-_, _*_, _/_, _%_, _≤_, _<_}
 use native.Mathlib.Omega.{arith}
 use mathlib.Core.Bool.{Bool, true, false, not, _&&_, _||_, Bool·beq, and-true}
 use mathlib.Core.List.{List, [], _∷_, _++_}
 use lib.Dec.{eqb, leb}
-use lib.ListN.{length, drop, getD, length-drop}
+use lib.ListN.{length, getD}
 use borrow.Author.Tests.{eqb-true, eq-eqb, ne-eqb, leb-true, le-leb, lt-leb, eqb-false}
 use Rattle.format.specs.Bytes.{if_then_else_, isEmpty, all, same, le16, word}
 use Rattle.format.specs.Text.{text}
 use Rattle.format.specs.Fields.{isil, alternate, alternative, isOwner, marker, marked, long, basicOwner}
-use Rattle.format.specs.Elements.{required, partsOf, ordinalOf, setBytes, setInfo, shape, form, value}
+use Rattle.format.specs.Elements.{partsOf, ordinalOf, setBytes, setInfo, someText, required, shape, form, value}
 use Rattle.format.specs.Layout.{firstByte}
 use Rattle.format.proofs.Tests.{never, and-l, and-r, and-i, and-iff, and-no, and-left, not-t, not-f, or-r}
-use Rattle.format.proofs.Strings.{nil-of, four-of, empty-of, not-empty, solid, le16-byte}
+use Rattle.format.proofs.Strings.{all-opened, empty-of, not-empty, solid, le16-byte}
 use Rattle.format.proofs.Fields.{text-nil, text-unmarked, isil-first, alternative-facts, owner-facts, spoken}
 
 -- ---- a value is nothing, or has its number's shape and at most 255 bytes
@@ -35,23 +35,18 @@ unfolding value form
 value-short n [] v = omega arith
 value-short n (x ∷ s) v = leb-true (length (x ∷ s)) 255 (and-r (shape n (x ∷ s)) (leb (length (x ∷ s)) 255) v)
 
--- 1 and 22 are text
-pub value-text : (n : ℕ) (s : List ℕ) → shape n s ≡ not (isEmpty s) && text s → value n s ≡ true → text s ≡ true
+-- what has the form of text
+pub value-text : (n : ℕ) (s : List ℕ) → shape n s ≡ someText s → value n s ≡ true → text s ≡ true
 value-text n s is v = elim (value-shape n s v) [ inl e ↦ rw e text-nil | inr e ↦ and-r (not (isEmpty s)) (text s) (sym is ∙ e) ]
 
-pub text-value : (n : ℕ) (s : List ℕ) → required n ≡ false → shape n s ≡ not (isEmpty s) && text s → text s ≡ true → length s ≤ 255 → value n s ≡ true
+pub text-value : (n : ℕ) (s : List ℕ) → required n ≡ false → shape n s ≡ someText s → text s ≡ true → length s ≤ 255 → value n s ≡ true
 unfolding value form
 text-value n [] r is t l = rw r
 text-value n (x ∷ s) r is t l = and-i (is ∙ t) (le-leb (length (x ∷ s)) 255 l)
 
-one-of : (s : List ℕ) → length s ≡ 1 → s ≡ getD s 0 0 ∷ []
-one-of [] e = absurd (omega arith)
-one-of (x ∷ []) e = refl
-one-of (x ∷ y ∷ s) e = absurd (omega arith)
-
 pub value-usage : (s : List ℕ) → value 5 s ≡ true → s ≡ getD s 0 0 ∷ []
 unfolding shape
-value-usage s v = one-of s (eqb-true (length s) 1 (required-shape 5 s refl v))
+value-usage s v = all-opened 0 1 s (eqb-true (length s) 1 (required-shape 5 s refl v))
 
 pub value-media : (s : List ℕ) → value 19 s ≡ true → (if eqb (getD s 0 0) 0 then [] else getD s 0 0 ∷ []) ≡ s
 unfolding shape
@@ -59,11 +54,8 @@ value-media s v = elim (value-shape 19 s v) [
   | inl e ↦ rw e refl
   | inr e ↦
       let l = eqb-true (length s) 1 (and-l (eqb (length s) 1) (not (eqb (getD s 0 0) 0)) e) in
-      rw (not-t (eqb (getD s 0 0) 0) (and-r (eqb (length s) 1) (not (eqb (getD s 0 0) 0)) e)) (sym (one-of s l))
+      rw (not-t (eqb (getD s 0 0) 0) (and-r (eqb (length s) 1) (not (eqb (getD s 0 0) 0)) e)) (sym (all-opened 0 1 s l))
 ]
-
-four : (s : List ℕ) → length s ≡ 4 → s ≡ getD s 0 0 ∷ getD s 1 0 ∷ getD s 2 0 ∷ getD s 3 0 ∷ []
-four s e = four-of s (omega arith) ∙ ap (λ (r : List ℕ). getD s 0 0 ∷ getD s 1 0 ∷ getD s 2 0 ∷ getD s 3 0 ∷ r) (nil-of (drop 4 s) (omega (arith, length-drop 4 s)))
 
 pub record SetInfo (s : List ℕ) : Type 0 where
   pub parts : partsOf s ≤ 255
@@ -75,7 +67,7 @@ pub value-set : (s : List ℕ) → value 4 s ≡ true → SetInfo s
 unfolding shape setInfo word
 value-set s v =
     let h = simp and-iff at (required-shape 4 s refl v) in
-    let l = four s (eqb-true (length s) 4 (h .0 .0 .0)) in
+    let l = all-opened 0 4 s (eqb-true (length s) 4 (h .0 .0 .0)) in
     let p = leb-true (partsOf s) 255 (h .0 .0 .1) in
     let q = leb-true (ordinalOf s) 255 (h .0 .1) in
     let o = leb-true (ordinalOf s) (partsOf s) (h .1) in

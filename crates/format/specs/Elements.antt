@@ -1,21 +1,13 @@
 -- The elements: document 01, "Elements".
-use Prim.Native.Nat.{ℕ, suc, _+_}
+use Prim.Native.Nat.{ℕ, suc}
 use mathlib.Core.Bool.{Bool, true, false, not, _&&_, _||_}
-use mathlib.Core.List.{List, [], _∷_, _++_}
+use mathlib.Core.List.{List, [], _∷_, _++_, map}
 use lib.ListN.{length, getD, set}
 use lib.Dec.{leb, ltb, eqb}
 use Rattle.format.specs.Bytes.{if_then_else_, isEmpty, all, word, le16}
 use Rattle.format.specs.Text.{text}
 use Rattle.format.specs.Fields.{isil, alternative, long}
 use Rattle.format.specs.Chain.{carriable}
-
--- the numbers of the table, rising; 255, the carried blocks, is apart
-unfoldable pub numbers : List ℕ
-numbers = 1 ∷ 3 ∷ 4 ∷ 5 ∷ 19 ∷ 22 ∷ 23 ∷ []
-
--- 4 and 5 are always present
-abbrev pub required : ℕ → Bool
-required n = eqb n 4 || eqb n 5
 
 -- element 4: parts, then ordinal, each two bytes low first
 abbrev pub partsOf : List ℕ → ℕ
@@ -31,18 +23,64 @@ setBytes parts ordinal = le16 parts ++ le16 ordinal
 unfoldable pub setInfo : List ℕ → Bool
 setInfo s = eqb (length s) 4 && leb (partsOf s) 255 && leb (ordinalOf s) 255 && leb (ordinalOf s) (partsOf s)
 
--- the form of each element in a sheet; an unknown number has none
+-- text that is not empty
+abbrev pub someText : List ℕ → Bool
+someText s = not (isEmpty s) && text s
+
+abbrev pub oneByte : List ℕ → Bool
+oneByte s = eqb (length s) 1
+
+-- one byte, not 00
+abbrev pub media : List ℕ → Bool
+media s = oneByte s && not (eqb (getD s 0 0) 0)
+
+-- ---- the table
+
+-- a row: an element's number, whether it is always present, and the form of its bytes in a sheet
+pub record Kind : Type 0 where
+  pub number : ℕ
+  pub required : Bool
+  pub shape : List ℕ → Bool
+
+abbrev optional : ℕ → (List ℕ → Bool) → Kind
+optional n f = record { number = n; required = false; shape = f }
+
+abbrev always : ℕ → (List ℕ → Bool) → Kind
+always n f = record { number = n; required = true; shape = f }
+
+-- the rows of what stands at most once, with rising numbers
+abbrev pub elements : List Kind
+elements =
+    optional 1 someText ∷
+    optional 3 isil ∷
+    always 4 setInfo ∷
+    always 5 oneByte ∷
+    optional 19 media ∷
+    optional 22 someText ∷
+    optional 23 alternative ∷
+    []
+
+-- how many they are
+abbrev pub places : ℕ
+places = length elements
+
+unfoldable pub numbers : List ℕ
+numbers = map (λ r. r .number) elements
+
+-- all rows: the last one is that of the carried blocks
+abbrev pub table : List Kind
+table = elements ++ optional 255 carriable ∷ []
+
+-- what is true of the row with a number; of an unknown number nothing is
+abbrev pub kindIs : (Kind → Bool) → List Kind → ℕ → Bool
+kindIs f [] n = false
+kindIs f (r ∷ rs) n = if eqb n (r .number) then f r else kindIs f rs n
+
+abbrev pub required : ℕ → Bool
+required n = kindIs (λ r. r .required) table n
+
 unfoldable pub shape : ℕ → List ℕ → Bool
-shape n s =
-    if eqb n 1 then not (isEmpty s) && text s else
-    if eqb n 3 then isil s else
-    if eqb n 4 then setInfo s else
-    if eqb n 5 then eqb (length s) 1 else
-    if eqb n 19 then eqb (length s) 1 && not (eqb (getD s 0 0) 0) else
-    if eqb n 22 then not (isEmpty s) && text s else
-    if eqb n 23 then alternative s else
-    if eqb n 255 then carriable s else
-    false
+shape n s = kindIs (λ r. r .shape s) table n
 
 -- a sheet gives an element's length one byte
 unfoldable pub form : ℕ → List ℕ → Bool

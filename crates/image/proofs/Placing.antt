@@ -12,7 +12,7 @@ use borrow.Author.Tests.{eqb-false, eq-eqb, ne-eqb, le-leb, lt-leb, leb-true}
 use Rattle.format.specs.Bytes.{if_then_else_, isEmpty, all, le16, part, trim}
 use Rattle.format.specs.Fields.{long, itemField, basicOwner, ownerField}
 use Rattle.format.specs.Chain.{separated, sealed, blockWith, Library, libraryFields, libraryBytes, blockOne}
-use Rattle.format.specs.Elements.{numbers, placeIn, place, slot, value, clash}
+use Rattle.format.specs.Elements.{places, numbers, placeIn, place, slot, value, clash}
 use Rattle.format.specs.Layout.{ownerWidth, ownerOf, usageOf, library, firstByte, front, basic, laidOut, hasLayout}
 use Rattle.format.specs.Pieces.{stored}
 use Rattle.format.proofs.Tests.{and-l, and-r, and-i, or-false, bytes-at}
@@ -66,10 +66,10 @@ either P true x y p q = p
 either P false x y p q = q
 
 -- these are block 1's fields
-pub record Fielded (src made places sizes : List ℕ) (f : Library) : Type 0 where
-  pub row : Row src made places sizes
+pub record Fielded (src made froms sizes : List ℕ) (f : Library) : Type 0 where
+  pub row : Row src made froms sizes
   pub few : Few sizes
-  pub are : slotsAt (src ++ made) places sizes ≡ libraryFields f
+  pub are : slotsAt (src ++ made) froms sizes ≡ libraryFields f
 
 at-most : (t : Bool) (n : ℕ) → (if t then 0 else n) ≤ n
 at-most true n = omega arith
@@ -82,20 +82,20 @@ module _ {src made ats lens d : List ℕ} (p : Draftable src made ats lens d) wh
   pub sized : Lengths ss lens
   sized = lengths-are src made ats lens (p .row)
 
-  seven : length ats ≡ 7
+  each : length ats ≡ places
   unfolding numbers
-  seven = sym (slots-length (src ++ made) ats lens (row-lengths src made ats lens (p .row))) ∙ values-length numbers ss (p .values)
+  each = sym (slots-length (src ++ made) ats lens (row-lengths src made ats lens (p .row))) ∙ values-length numbers ss (p .values)
 
-  pub stands : (k : ℕ) → k < 7 → (k < 7) × Stands src made (getD ats k 0) (getD lens k 0)
-  stands k h = (h, row-at src made ats lens (p .row) k (omega (arith, seven)))
+  pub stands : (k : ℕ) → k < places → (k < places) × Stands src made (getD ats k 0) (getD lens k 0)
+  stands k h = (h, row-at src made ats lens (p .row) k (omega (arith, each)))
 
-  stands-less : (k n : ℕ) → k < 7 → n ≤ getD lens k 0 → Stands src made (getD ats k 0) n
+  stands-less : (k n : ℕ) → k < places → n ≤ getD lens k 0 → Stands src made (getD ats k 0) n
   stands-less k n i h = elim (stands k i .1) [ inl e ↦ inl (omega (arith, e, h)) | inr e ↦ inr (e .0, omega (arith, e .1, h)) ]
 
-  pub slot-is : (k : ℕ) → k < 7 → part (getD ats k 0) (getD lens k 0) (src ++ made) ≡ getD ss k []
-  slot-is k h = sym (slot-at (src ++ made) ats lens (row-lengths src made ats lens (p .row)) k (omega (arith, seven)))
+  pub slot-is : (k : ℕ) → k < places → part (getD ats k 0) (getD lens k 0) (src ++ made) ≡ getD ss k []
+  slot-is k h = sym (slot-at (src ++ made) ats lens (row-lengths src made ats lens (p .row)) k (omega (arith, each)))
 
-  value-at : (k : ℕ) → k < 7 → value (getD numbers k 0) (getD ss k []) ≡ true
+  value-at : (k : ℕ) → k < places → value (getD numbers k 0) (getD ss k []) ≡ true
   unfolding numbers
   value-at k h = values-at numbers ss (p .values) k h
 
@@ -124,10 +124,10 @@ module _ {src made ats lens d : List ℕ} (p : Draftable src made ats lens d) wh
   short-at k = bytes-at k lens (row-short src made ats lens (p .row) numbers (p .values))
 
   -- block 1's fields, as the code finds them: the item, the owner's length if it belongs there, the usage byte's
-  module _ (n item name behind code : ℕ) (hi : item < 7) (hn : name < 7) (ei : getD ss item [] ≡ library n ss .item) (en : getD ss name [] ≡ ownerOf ss)
+  module _ (n item name behind code : ℕ) (hi : item < places) (hn : name < places) (ei : getD ss item [] ≡ library n ss .item) (en : getD ss name [] ≡ ownerOf ss)
       (eb : behind ≡ (if isEmpty (ownerOf ss) || basicOwner (ownerWidth n) (ownerOf ss) then 0 else length (ownerOf ss))) (ec : code ≡ (if eqb (usageOf ss % 16) 0 then 0 else 1)) where
-    abbrev places : List ℕ
-    places = getD ats item 0 ∷ getD ats name 0 ∷ getD ats 3 0 ∷ []
+    abbrev froms : List ℕ
+    froms = getD ats item 0 ∷ getD ats name 0 ∷ getD ats 3 0 ∷ []
 
     abbrev sizes : List ℕ
     sizes = getD lens item 0 ∷ behind ∷ code ∷ []
@@ -144,7 +144,7 @@ module _ {src made ats lens d : List ℕ} (p : Draftable src made ats lens d) wh
     usage-some : code ≤ 1
     usage-some = omega (arith, ec, at-most (eqb (usageOf ss % 16) 0) 1)
 
-    fields-row : Row src made places sizes
+    fields-row : Row src made froms sizes
     fields-row = next (stands item hi .1) (next (stands-less name behind hn owner-some) (next (stands-less 3 code (omega arith) (omega (arith, usage-some, usage-long))) none))
 
     fields-few : Few sizes
@@ -172,7 +172,7 @@ module _ {src made ats lens d : List ℕ} (p : Draftable src made ats lens d) wh
             let some : usageOf ss ≡ 0 → ⊥ = λ h. eqb-false (usageOf ss % 16) 0 z (rw h) in
             rw (e ∙ sym usage-long) (slot-is 3 (omega arith) ∙ value-usage (getD ss 3 []) (value-at 3 (omega arith))) ∙ sym (trim-other (usageOf ss) [] some)
 
-    pub fields-found : Fielded src made places sizes (library n ss)
+    pub fields-found : Fielded src made froms sizes (library n ss)
     unfolding slotsAt
     fields-found = record { row = fields-row; few = fields-few; are = rw (slot-is item hi ∙ ei, owner-field, usage-field) }
 
@@ -195,21 +195,21 @@ block-some zero (y ∷ r) n = (refl, sealed-length 1 (zero ∷ y ∷ r) ∙ omeg
 block-some (suc m) r n = (refl, sealed-length 1 (suc m ∷ r) ∙ omega arith)
 
 -- its size, by the code, and its bytes
-module _ {src made places sizes : List ℕ} {f : Library} (h : Fielded src made places sizes f) (media size : ℕ) (em : media ≡ f .media)
+module _ {src made froms sizes : List ℕ} {f : Library} (h : Fielded src made froms sizes f) (media size : ℕ) (em : media ≡ f .media)
     (es : (fs : List (List ℕ)) → Lengths fs sizes → size ≡ length (blockWith 1 (trim media (separated fs)))) where
   pub size-is : size ≡ length (blockOne f)
   unfolding libraryBytes
-  size-is = es (libraryFields f) (ap (map length) (sym (h .are)) ∙ lengths-are src made places sizes (h .row)) ∙ rw em
+  size-is = es (libraryFields f) (ap (map length) (sym (h .are)) ∙ lengths-are src made froms sizes (h .row)) ∙ rw em
 
   module _ (some : size ≡ 0 → ⊥) where
     filled : (blockOne f ≡ sealed 1 (f .media ∷ separated (libraryFields f))) × (length (blockOne f) ≡ 5 + length (separated (libraryFields f)))
     unfolding libraryBytes
     filled = block-some (f .media) (separated (libraryFields f)) (λ z. some (size-is ∙ z))
 
-    pub block-is : sealed 1 (media ∷ content src made places sizes) ≡ blockOne f
+    pub block-is : sealed 1 (media ∷ content src made froms sizes) ≡ blockOne f
     block-is = rw (em, h .are) (sym (filled .0))
 
-    pub content-long : size ≡ 5 + length (content src made places sizes)
+    pub content-long : size ≡ 5 + length (content src made froms sizes)
     content-long = rw (h .are) (size-is ∙ filled .1)
 
 -- ---- room

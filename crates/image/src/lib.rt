@@ -4,20 +4,21 @@ mod blocks;
 mod sizes;
 
 use format::Stage;
+use rows::PLACES;
 ghost use mathlib.Core.Path.{_≡_};
 ghost use mathlib.Core.List.{List, [], _++_};
 ghost use Prim.Native.Nat.{ℕ, _<_};
 ghost use lib.ListN.{getD};
 ghost use Rattle.format.specs.Bytes.{if_then_else_, part};
 ghost use Rattle.format.specs.Fields.{long};
-ghost use Rattle.format.specs.Elements.{slot, clash};
+ghost use Rattle.format.specs.Elements.{places, slot, clash};
 ghost use Rattle.format.specs.Layout.{ownerOf};
 ghost use Rattle.rows.specs.Rows.{Stands};
 ghost use Rattle.image.specs.Laying.{Lengths};
 ghost use Rattle.image.specs.Drafting.{Draftable, Drafted, sealing};
 
 // Do two elements clash: 3 with 23, or 22 with a 1 longer than 16 bytes.
-fn clashing(lens: &[usize; 7]) -> bool
+fn clashing(lens: &[usize; PLACES]) -> bool
     ensures { λ r. ⌜ ((ss : List (List ℕ)) → Lengths ss (now (lens .entry)) → r ≡ clash ss) ⌝ }
 {
     if lens[1] != 0 {
@@ -32,26 +33,26 @@ fn clashing(lens: &[usize; 7]) -> bool
 fn slot<'a>(
     src: &'a [u8],
     made: &'a [u8],
-    ats: &[usize; 7],
-    lens: &[usize; 7],
+    ats: &[usize; PLACES],
+    lens: &[usize; PLACES],
     k: usize,
 ) -> &'a [u8]
-    requires { ⌜ (k < 7) × Stands (now src) (now made) (getD (now ats) k 0) (getD (now lens) k 0) ⌝ }
+    requires { ⌜ (k < places) × Stands (now src) (now made) (getD (now ats) k 0) (getD (now lens) k 0) ⌝ }
     ensures { λ r. ⌜ now r ≡ part (getD (now (ats .entry)) k 0) (getD (now (lens .entry)) k 0) (now (src .entry) ++ now (made .entry)) ⌝ }
 {
     rows::piece(src, made, ats[k], lens[k])
 }
 
 // The place of the owner: the ISIL's, or the alternative owner's where there is none.
-fn owner_place(lens: &[usize; 7]) -> usize
-    ensures { λ r. ⌜ (r < 7) × ((ss : List (List ℕ)) → Lengths ss (now (lens .entry)) → getD ss r [] ≡ ownerOf ss) ⌝ }
+fn owner_place(lens: &[usize; PLACES]) -> usize
+    ensures { λ r. ⌜ (r < places) × ((ss : List (List ℕ)) → Lengths ss (now (lens .entry)) → getD ss r [] ≡ ownerOf ss) ⌝ }
 {
     if lens[1] == 0 { 6 } else { 1 }
 }
 
 // The place of what block 1 has in its item field: an element 1 longer than 16 bytes, else 22.
-fn item_place(lens: &[usize; 7]) -> usize
-    ensures { λ r. ⌜ (r < 7) × ((ss : List (List ℕ)) → Lengths ss (now (lens .entry)) → getD ss r [] ≡ if long (slot ss 1) then slot ss 1 else slot ss 22) ⌝ }
+fn item_place(lens: &[usize; PLACES]) -> usize
+    ensures { λ r. ⌜ (r < places) × ((ss : List (List ℕ)) → Lengths ss (now (lens .entry)) → getD ss r [] ≡ if long (slot ss 1) then slot ss 1 else slot ss 22) ⌝ }
 {
     if 16 < lens[0] { 0 } else { 5 }
 }
@@ -60,8 +61,8 @@ fn item_place(lens: &[usize; 7]) -> usize
 pub fn draft<'a>(
     src: &'a [u8],
     made: &'a [u8],
-    ats: &[usize; 7],
-    lens: &[usize; 7],
+    ats: &[usize; PLACES],
+    lens: &[usize; PLACES],
     carried: &[u8],
     draft: &mut [u8],
 ) -> Stage

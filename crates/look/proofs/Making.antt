@@ -3,13 +3,13 @@ use mathlib.Core.Path.{_≡_, refl, sym, ap, _∙_}
 use Prim.Native.Nat.{ℕ, _+_, _≤_}
 use native.Mathlib.Omega.{arith}
 use mathlib.Core.List.{List, [], _∷_, _++_, append-assoc}
-use lib.ListN.{length, take, drop, getD, set, length-set, drop-of-length-le}
+use lib.ListN.{length, take, drop, getD, set, length-set}
 use lib.Seq.{drop-cons, drop-drop, sets, sets-eq}
 use Rattle.format.specs.Bytes.{part, filled}
 use Rattle.format.specs.Fields.{hyphen}
 use Rattle.format.specs.Pieces.{stored}
 use Rattle.format.proofs.Pieces.{stored-then}
-use Rattle.format.proofs.Strings.{four-of}
+use Rattle.format.proofs.Strings.{all-opened}
 use Rattle.fields.specs.declared.OwnerParts.{OwnerParts}
 use Rattle.fields.specs.declared.LibraryParts.{LibraryParts}
 use Rattle.look.specs.Row.{isilMade, isilBytes, frontMade, madeBy, stead}
@@ -46,17 +46,8 @@ made-set t o l d e₁ e₂ =
 
 -- ---- the row: each place is stored to
 
-five-of : (d : List ℕ) → 5 ≤ length d → d ≡ getD d 0 0 ∷ getD d 1 0 ∷ getD d 2 0 ∷ getD d 3 0 ∷ getD d 4 0 ∷ drop 5 d
-five-of d h = four-of d (omega arith) ∙ ap (λ (l : List ℕ). getD d 0 0 ∷ getD d 1 0 ∷ getD d 2 0 ∷ getD d 3 0 ∷ l) (drop-cons d 4 0 (omega arith))
-
-seven-of : (l : List ℕ) → length l ≡ 7 → l ≡ getD l 0 0 ∷ getD l 1 0 ∷ getD l 2 0 ∷ getD l 3 0 ∷ getD l 4 0 ∷ getD l 5 0 ∷ getD l 6 0 ∷ []
-seven-of l h =
-    five-of l (omega arith)
-    ∙ ap (λ (r : List ℕ). getD l 0 0 ∷ getD l 1 0 ∷ getD l 2 0 ∷ getD l 3 0 ∷ getD l 4 0 ∷ r)
-    (drop-cons l 5 0 (omega arith) ∙ ap (λ (r : List ℕ). getD l 5 0 ∷ r) (drop-cons l 6 0 (omega arith) ∙ ap (λ (r : List ℕ). getD l 6 0 ∷ r) (drop-of-length-le l {i = 7} (omega arith))))
-
 pub row-set : (l : List ℕ) {l₁ l₂ l₃ l₄ l₅ : List ℕ} {n : ℕ} (a b e f g h i : ℕ) → l₁ ≡ set (set l 0 a) 5 h → length l₁ ≡ 7
     → l₂ ≡ set l₁ 2 e → l₃ ≡ set l₂ 3 f → l₄ ≡ set l₃ 4 n → n ≡ g → l₅ ≡ set (set l₄ 6 i) 1 b → l₅ ≡ a ∷ b ∷ e ∷ f ∷ g ∷ h ∷ i ∷ []
 row-set l a b e f g h i e₁ k e₂ e₃ e₄ m e₅ =
     let k₀ : length l ≡ 7 = simp length-set at (rw e₁ at k) in
-    rw (e₅, e₄, m, e₃, e₂, e₁) (ap (λ (m : List ℕ). set (set (set (set (set (set (set m 0 a) 5 h) 2 e) 3 f) 4 g) 6 i) 1 b) (seven-of l k₀))
+    rw (e₅, e₄, m, e₃, e₂, e₁) (ap (λ (m : List ℕ). set (set (set (set (set (set (set m 0 a) 5 h) 2 e) 3 f) 4 g) 6 i) 1 b) (all-opened 0 7 l k₀))

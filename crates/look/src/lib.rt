@@ -9,6 +9,7 @@ use format::Part;
 use format::Refusal;
 use format::Stage;
 use judge::FieldsFound;
+use rows::PLACES;
 ghost use mathlib.Core.Path.{_≡_};
 ghost use Rattle.format.specs.Numbers.{refusalGiven, refusalOf};
 ghost use Rattle.look.specs.View.{lookGiven, Looked};
@@ -39,7 +40,12 @@ pub fn look_refusal(l: Look) -> Refusal
 
 // Looks at a tag: the refusals 1, 3, 4, 15 to 19, 6 and 7 in order, or what it holds and where. `made` takes what the tag does not have in
 // sheet form: set information, 4 bytes, usage, 1, and an ISIL of the owner field with its hyphen, at most 14.
-pub fn look_at(tag: &[u8], ats: &mut [usize; 7], lens: &mut [usize; 7], made: &mut [u8; 19]) -> Look
+pub fn look_at(
+    tag: &[u8],
+    ats: &mut [usize; PLACES],
+    lens: &mut [usize; PLACES],
+    made: &mut [u8; 19],
+) -> Look
     ensures { λ r. ⌜ Looked (now (tag .entry)) (now (ats .entry)) (now (lens .entry)) (now (made .entry)) r (now (ats .exit)) (now (lens .exit)) (now (made .exit)) ⌝ }
 {
     let basic = basic::basic_stage(tag);

@@ -2,6 +2,7 @@
 use crate::row::hold;
 use fields::LibraryParts;
 use fields::OwnerParts;
+use rows::PLACES;
 ghost use mathlib.Core.Path.{_≡_};
 ghost use mathlib.Core.List.{[], _∷_};
 ghost use Rattle.format.specs.Fields.{alternate};
@@ -38,8 +39,8 @@ pub fn hold_owner(
     at: usize,
     owner: OwnerParts,
     library: LibraryParts,
-    ats: &mut [usize; 7],
-    lens: &mut [usize; 7],
+    ats: &mut [usize; PLACES],
+    lens: &mut [usize; PLACES],
     made: &mut [u8; 19],
 )
     requires { ⌜ OwnerLies (now tag) at owner library ⌝ }

@@ -3,6 +3,7 @@ use fields::ItemParts;
 use fields::LibraryParts;
 use fields::OwnerParts;
 use format::Part;
+use rows::PLACES;
 ghost use mathlib.Core.Path.{_≡_};
 ghost use Prim.Native.Nat.{_+_, _≤_, _<_};
 ghost use lib.ListN.{length, set};
@@ -54,8 +55,8 @@ fn hold_items(
     block: usize,
     item: ItemParts,
     library: LibraryParts,
-    ats: &mut [usize; 7],
-    lens: &mut [usize; 7],
+    ats: &mut [usize; PLACES],
+    lens: &mut [usize; PLACES],
 )
     requires { ⌜ block ≤ 2048 ⌝ }
     ensures { λ _. ⌜ (now (ats .exit) ≡ set (set (now (ats .entry)) 0 (itemBy block item library .at)) 5 (alternativeItemBy block item library .at))
@@ -78,8 +79,8 @@ pub fn fill_row(
     item: ItemParts,
     owner: OwnerParts,
     library: LibraryParts,
-    ats: &mut [usize; 7],
-    lens: &mut [usize; 7],
+    ats: &mut [usize; PLACES],
+    lens: &mut [usize; PLACES],
     made: &mut [u8; 19],
 )
     requires { ⌜ RowLies (now tag) block owner library ⌝ }

@@ -1,6 +1,5 @@
 -- The sheet of a row and of the carried blocks, piece by piece; and what is answered of it.
 use mathlib.Core.Path.{_≡_, refl, sym, ap, ap₂, _∙_}
-use mathlib.Core.Bool.{true}
 use mathlib.Core.List.{List, [], _∷_, _++_, map, append-assoc, append-nil}
 use Prim.Native.Nat.{ℕ, _+_, _*_, _/_, _%_, _≤_}
 use native.Mathlib.Nat.{add-zero}
@@ -11,12 +10,12 @@ use lib.Seq.{sets-eq}
 use borrow.Author.Tests.{ne-eqb, le-leb, leb-true}
 use Rattle.format.specs.Answers.{got, refused, plain, Step, need, inOrder}
 use Rattle.format.specs.Bytes.{le16, joined, filled}
-use Rattle.format.specs.Elements.{numbers}
-use Rattle.format.specs.Sheet.{Entry, heads, bodies, bodyAt, sheetOf, offsetsFit, entriesAt, carriedEntries, entries}
+use Rattle.format.specs.Elements.{places, numbers}
+use Rattle.format.specs.Sheet.{Entry, heads, bodies, bodyAt, sheetOf, entriesAt, carriedEntries, entries}
 use Rattle.format.specs.declared.NumberAnswer.the-variants.{Done, Refused}
-use Rattle.format.proofs.Tests.{and-i}
 use Rattle.format.proofs.Answers.{next-inv, works, worked, refused-with, afterwards-got, afterwards-refused}
 use Rattle.format.proofs.Sheets.{length-sheet}
+use Rattle.format.proofs.Offsets.{fit-total}
 use Rattle.format.proofs.Pieces.{stored-front}
 use Rattle.rows.specs.Rows.{slotsAt}
 use Rattle.rows.proofs.Rows.{row-lengths, slots-length, lengths-are}
@@ -61,23 +60,15 @@ row-tell (n ∷ ns) ((x ∷ s) ∷ ss) e =
       ap (λ (y : List ℕ). (x ∷ s) ++ y) (r .2),
     )
 
--- where a sheet ends by 65,535 no offset passes that
-offsets-fit : (at : ℕ) (es : List Entry) → at + length (bodies es) ≤ 65535 → offsetsFit at es ≡ true
-unfolding offsetsFit bodies
-offsets-fit at [] h = refl
-offsets-fit at (e ∷ es) h =
-    let l = length-append (e .bytes) (bodies es) in
-    and-i (le-leb at 65535 (omega arith)) (offsets-fit (at + length (e .bytes)) es (omega arith))
-
 -- ---- what the code counts
 
 -- m elements of a row have bytes, k together
 pub record Counted (t made ats lens : List ℕ) (count size : ℕ) (blocks : List ℕ) (m k : ℕ) : Type 0 where
   pub given : Renderable t made ats lens count size blocks
-  pub seven : length lens ≡ 7
-  pub few : m ≤ 7
+  pub each : length lens ≡ places
+  pub few : m ≤ places
   pub elements : m ≡ countBy lens
-  pub small : k ≤ 1785
+  pub small : k ≤ 255 * places
   pub bytes : k ≡ sizeBy lens
 
 -- a whole chain has few carried blocks
@@ -120,7 +111,7 @@ module _ {t made ats lens : List ℕ} {count size : ℕ} {blocks : List ℕ} {m 
   unfolding numbers
   told =
       let l = row-lengths t made ats lens (x .given .row) in
-      let r = row-tell numbers slots (omega (arith, x .seven, slots-length (t ++ made) ats lens l)) in
+      let r = row-tell numbers slots (omega (arith, x .each, slots-length (t ++ made) ats lens l)) in
       (x .elements ∙ sym (ap countBy lengths) ∙ r .0, x .bytes ∙ sym (ap sizeBy lengths) ∙ r .1, r .2)
 
   entry-count : length all ≡ m + count
@@ -155,7 +146,7 @@ module _ {t made ats lens : List ℕ} {count size : ℕ} {blocks : List ℕ} {m 
     Filling out ps at = Storing buffer 0 (sheetOf all) out ps at
 
     answer-is : rendering all buffer ≡ inOrder (steps end (length buffer)) end
-    answer-is = rw (sheet-long, offsets-fit (bodyAt (length all)) all (omega (arith, length-sheet all, sheet-long, short)), le-leb end 65535 short)
+    answer-is = rw (sheet-long, fit-total (bodyAt (length all)) all (omega (arith, length-sheet all, sheet-long, short)), le-leb end 65535 short)
 
     -- the number of a refusal goes out unchanged
     pub rendered-refused : (n r : ℕ) → tested end (length buffer) ≡ refused (plain n) → r ≡ n → Rendered all buffer (Refused r) buffer

@@ -6,6 +6,7 @@ use Prim.Native.Nat.{ℕ, _+_, _≤_}
 use mathlib.Core.List.{List, [], _∷_, _++_}
 use lib.ListN.{length}
 use lib.Dec.{leb, eqb}
+use Rattle.format.specs.Elements.{places}
 use Rattle.format.specs.Answers.{Answer, got, need, inOrder, afterwards}
 use Rattle.format.specs.Bytes.{if_then_else_, bytes, le16, joined, filled}
 use Rattle.format.specs.Chain.{otherBlocks}
@@ -46,7 +47,7 @@ sizeBy lens = sumBy (λ len. len) lens
 
 -- a length for each number of the table, each a byte
 pub record Lengths (lens : List ℕ) : Type 0 where
-  pub seven : length lens ≡ 7
+  pub each : length lens ≡ places
   pub small : bytes lens ≡ true
 
 -- ---- what rendering relies on: a chain that is whole, its carried blocks counted, and a row of elements

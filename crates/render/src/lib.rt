@@ -1,15 +1,16 @@
 // The sheet of a tag's elements: document 01, "The sheet".
 use format::NumberAnswer;
 use format::Stage;
+use rows::PLACES;
 ghost use mathlib.Core.Path.{_≡_};
 ghost use mathlib.Core.List.{[], _∷_, _++_};
-ghost use Prim.Native.Nat.{_+_, _≤_};
+ghost use Prim.Native.Nat.{_+_, _*_, _≤_};
 ghost use lib.ListN.{length};
 ghost use lib.Dec.{leb, ltb};
 ghost use Rattle.format.specs.Answers.{got, need, inOrder};
 ghost use Rattle.format.specs.Bytes.{joined};
 ghost use Rattle.format.specs.Chain.{idOf};
-ghost use Rattle.format.specs.Elements.{numbers};
+ghost use Rattle.format.specs.Elements.{places, numbers};
 ghost use Rattle.format.specs.Reading.{walked, blocksIn};
 ghost use Rattle.format.specs.Numbers.{stageGiven};
 ghost use Rattle.format.specs.Sheet.{heads, carriedEntries, entries};
@@ -95,13 +96,13 @@ fn numbered_count(lens: &[usize]) -> usize
 }
 
 // How many bytes they have together.
-fn numbered_size(lens: &[usize; 7]) -> usize
+fn numbered_size(lens: &[usize; PLACES]) -> usize
     requires { ⌜ Lengths (now lens) ⌝ }
-    ensures { λ r. ⌜ (r ≤ 1785) × (r ≡ sizeBy (now (lens .entry))) ⌝ }
+    ensures { λ r. ⌜ (r ≤ 255 * places) × (r ≡ sizeBy (now (lens .entry))) ⌝ }
 {
     let mut n: usize = 0;
     let mut k: usize = 0;
-    while k < 7 {
+    while k < PLACES {
         n += lens[k];
         k += 1;
     }
@@ -110,14 +111,14 @@ fn numbered_size(lens: &[usize; 7]) -> usize
 
 // Writes to `sheet` from byte 2 on the heads of these elements; `offset` is where their bytes begin in the sheet. Answers the place
 // behind the heads.
-fn numbered_heads(sheet: &mut [u8], offset: usize, lens: &[usize; 7]) -> usize
+fn numbered_heads(sheet: &mut [u8], offset: usize, lens: &[usize; PLACES]) -> usize
     requires { ⌜ (offset ≤ 65535) × Lengths (now lens) × (2 + length (joined (headsBy offset numbers (now lens))) ≤ length (now sheet)) ⌝ }
     ensures { λ r. ⌜ stored (now (sheet .entry)) 2 (joined (headsBy offset numbers (now (lens .entry)))) r (now (sheet .exit)) ⌝ }
 {
     let mut at: usize = 2;
     let mut from = offset;
     let mut k: usize = 0;
-    while k < 7 {
+    while k < PLACES {
         let len = lens[k];
         if len != 0 {
             at = put_head(sheet, at, from, rows::number_at(k), len);
@@ -134,16 +135,16 @@ fn numbered_bytes<'a>(
     at: usize,
     tag: &'a [u8],
     made: &'a [u8],
-    ats: &[usize; 7],
-    lens: &[usize; 7],
+    ats: &[usize; PLACES],
+    lens: &[usize; PLACES],
 ) -> usize
-    requires { ⌜ Row (now tag) (now made) (now ats) (now lens) × (length (now ats) ≡ 7)
+    requires { ⌜ Row (now tag) (now made) (now ats) (now lens) × (length (now ats) ≡ places)
         × (at + length (joined (slotsAt (now tag ++ now made) (now ats) (now lens))) ≤ length (now sheet)) ⌝ }
     ensures { λ r. ⌜ stored (now (sheet .entry)) at (joined (slotsAt (now (tag .entry) ++ now (made .entry)) (now (ats .entry)) (now (lens .entry)))) r (now (sheet .exit)) ⌝ }
 {
     let mut end = at;
     let mut k: usize = 0;
-    while k < 7 {
+    while k < PLACES {
         let len = lens[k];
         if len != 0 {
             end = strings::put_bytes(sheet, end, rows::piece(tag, made, ats[k], len));
@@ -172,8 +173,8 @@ fn room_stage(end: usize, room: usize) -> Stage
 pub fn render<'a>(
     tag: &'a [u8],
     made: &'a [u8],
-    ats: &[usize; 7],
-    lens: &[usize; 7],
+    ats: &[usize; PLACES],
+    lens: &[usize; PLACES],
     count: usize,
     size: usize,
     blocks: &[u8],

@@ -1,20 +1,13 @@
 -- The search for a number in the table.
-use mathlib.Core.Path.{_≡_, refl, ap}
-use Prim.Native.Nat.{ℕ, zero, suc, _+_, _≤_, _<_}
-use native.Mathlib.Nat.{zero-add, le-of-suc-le-suc, not-suc-le-zero}
+use mathlib.Core.Path.{_≡_, ap}
+use Prim.Native.Nat.{ℕ, suc, _+_, _≤_, _<_}
+use native.Mathlib.Nat.{zero-add}
 use native.Mathlib.Numerals.{add-one}
 use native.Mathlib.Omega.{arith}
-use mathlib.Core.List.{List, [], _∷_}
 use lib.ListN.{length, getD, drop, drop-of-length-le}
 use lib.Seq.{drop-cons}
 use borrow.Author.Tests.{eq-eqb, ne-eqb}
 use Rattle.format.specs.Elements.{numbers, placeIn, place}
-
--- behind the table's end there is no number
-pub none-behind : (l : List ℕ) (k : ℕ) → length l ≤ k → getD l k 0 ≡ 0
-none-behind [] k h = refl
-none-behind (n ∷ l) zero h = absurd (not-suc-le-zero h)
-none-behind (n ∷ l) (suc k) h = none-behind l k (le-of-suc-le-suc h)
 
 -- the number does not stand before place k
 pub record Sought (n k : ℕ) : Type 0 where

@@ -7,21 +7,24 @@ ghost use Rattle.format.specs.Bytes.{part};
 ghost use Rattle.format.specs.Elements.{numbers, place};
 ghost use Rattle.rows.specs.Rows.{Stands};
 
-const NUMBERS: [u8; 7] = [1, 3, 4, 5, 19, 22, 23];
+// How many places the table has.
+pub const PLACES: usize = 7;
+
+const NUMBERS: [u8; PLACES] = [1, 3, 4, 5, 19, 22, 23];
 
 // The number at a place of the table; 0 where there is none.
 pub fn number_at(k: usize) -> u8
     ensures { λ r. ⌜ r ≡ getD numbers k 0 ⌝ }
 {
-    if k < 7 { NUMBERS[k] } else { 0 }
+    if k < PLACES { NUMBERS[k] } else { 0 }
 }
 
-// The place of a number in the table; 7 where it has none.
+// The place of a number in the table; the count of places where it has none.
 pub fn place_of(number: u32) -> usize
     ensures { λ r. ⌜ r ≡ place number ⌝ }
 {
     let mut k: usize = 0;
-    while k < 7 {
+    while k < PLACES {
         if number_at(k) as u32 == number {
             return k;
         }

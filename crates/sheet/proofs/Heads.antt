@@ -13,7 +13,7 @@ use borrow.Author.Tests.{leb-true, le-leb, lt-leb, eqb-true, eqb-false, eq-eqb, 
 use Rattle.format.specs.Bytes.{if_then_else_, bytes, same, le16, word}
 use Rattle.format.specs.Sheet.{Entry, heads, bodies, sheetOf, offsetsFit, fitting, risingFrom, rising, cut, bodyAt, countIn, entriesIn, rightSheet}
 use Rattle.format.proofs.Tests.{never, same-truth, and-l, and-r, and-i, or-r, all-drop, bytes-at, same-refl, same-eq}
-use Rattle.format.proofs.Strings.{word-le16, le16-word, nil-of, four-of}
+use Rattle.format.proofs.Strings.{word-le16, le16-word, nil-of, opened}
 use Rattle.format.proofs.Sheets.{length-cut, body-length, entry-count, sheet-right}
 use Rattle.sheet.specs.Heads.{RightOf}
 use Rattle.sheet.specs.Scanning.{bodyIn}
@@ -90,7 +90,7 @@ cut-laid (suc k) at h b y l e =
     let four : 4 + 4 * k ≡ 4 * suc k = omega arith in
     let behind : drop (4 * suc k) h ≡ drop (4 * k) (drop 4 h) = sym (drop-drop (4 * k) 4 h ∙ ap (λ (m : ℕ). drop m h) four) in
     record {
-      heads-back = rw (behind, tn, two) (ap (λ (t : List ℕ). getD h 0 0 ∷ getD h 1 0 ∷ getD h 2 0 ∷ n ∷ t) (ih .heads-back) ∙ sym (four-of h (omega arith)));
+      heads-back = rw (behind, tn, two) (ap (λ (t : List ℕ). getD h 0 0 ∷ getD h 1 0 ∷ getD h 2 0 ∷ n ∷ t) (ih .heads-back) ∙ sym (opened 0 4 h (omega arith)));
       bodies-back = ap (λ (t : List ℕ). take n b ++ t) (ih .bodies-back) ∙ take-append-drop n b;
       offsets = rw tn (and-i (le-leb at 65535 (omega (arith, bytes-at 1 h y, bytes-at 2 h y))) (ih .offsets));
     }

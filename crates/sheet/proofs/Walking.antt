@@ -12,7 +12,7 @@ use lib.ListN.{length, take, drop, set, getD, length-append, length-set, drop-of
 use lib.Seq.{drop-cons, drop-drop, take-at, drop-at, getD-drop, take-suc-set, append-snoc, take-all}
 use borrow.Author.Tests.{le-leb, lt-leb, eqb-true, eq-eqb, ne-eqb}
 use Rattle.format.specs.Bytes.{if_then_else_, isEmpty, all, bytes, le16, word, part}
-use Rattle.format.specs.Elements.{numbers, setInfo, shape, form}
+use Rattle.format.specs.Elements.{places, numbers, setInfo, shape, form}
 use Rattle.format.specs.Sheet.{Entry, heads, bodies, bodyAt, countIn, entriesIn, rightSheet, find, formed, goodValues}
 use Rattle.format.proofs.Tests.{never}
 use Rattle.format.proofs.Strings.{nil-of}
@@ -200,14 +200,14 @@ left k rest = lengthsOf (drop k numbers) rest
 pub record Filling (s : List ℕ) (i k at : ℕ) (ats lens : List ℕ) : Type 0 where
   pub rest : List Entry
   pub walks : Walking s i at rest
-  pub placed : k ≤ 7
-  pub ats-long : length ats ≡ 7
-  pub lens-long : length lens ≡ 7
+  pub placed : k ≤ places
+  pub ats-long : length ats ≡ places
+  pub lens-long : length lens ≡ places
   pub lens-are : take k lens ++ left k rest ≡ lensIn s
   pub ats-are : take k ats ++ startsOf at (left k rest) ≡ atsIn s
   pub end-is : endOf at (left k rest) ≡ carriedAt s
 
-pub filling-start : (s ats lens : List ℕ) → rightSheet s ≡ true → length ats ≡ 7 → length lens ≡ 7 → Filling s 0 0 (bodyIn s) ats lens
+pub filling-start : (s ats lens : List ℕ) → rightSheet s ≡ true → length ats ≡ places → length lens ≡ places → Filling s 0 0 (bodyIn s) ats lens
 filling-start s ats lens e a l =
     record { rest = entriesIn s; walks = walking-start s e; placed = omega arith; ats-long = a; lens-long = l; lens-are = refl; ats-are = refl; end-is = refl }
 
@@ -215,7 +215,7 @@ filling-start s ats lens e a l =
 stored-one : (l : List ℕ) (k x : ℕ) (r whole : List ℕ) → k < length l → take k l ++ x ∷ r ≡ whole → take (k + 1) (set l k x) ++ r ≡ whole
 stored-one l k x r whole h e = rw (add-one, take-suc-set l k x h, append-snoc) e
 
-module _ {s : List ℕ} {i k at : ℕ} {ats lens : List ℕ} (f : Filling s i k at ats lens) (place : k < 7) where
+module _ {s : List ℕ} {i k at : ℕ} {ats lens : List ℕ} (f : Filling s i k at ats lens) (place : k < places) where
   -- the next length is `len`, and these entries are left
   next : (j len : ℕ) (rest : List Entry) → Walking s j (at + len) rest → left k (f .rest) ≡ len ∷ left (k + 1) rest
       → Filling s j (k + 1) (at + len) (set ats k at) (set lens k len)
@@ -264,7 +264,7 @@ module _ {s : List ℕ} {i k at : ℕ} {ats lens : List ℕ} (f : Filling s i k 
         let z = first-left .first in
         passed (ap₂ lengthsOf here z ∙ rw (ne-eqb (r .number) (getD numbers k 0) e) (ap (λ (l : List Entry). 0 ∷ left (k + 1) l) (sym z)))
 
-pub filling-end : {s : List ℕ} {i k at : ℕ} {ats lens : List ℕ} → Filling s i k at ats lens → 7 ≤ k → (at ≡ carriedAt s) × (ats ≡ atsIn s) × (lens ≡ lensIn s)
+pub filling-end : {s : List ℕ} {i k at : ℕ} {ats lens : List ℕ} → Filling s i k at ats lens → places ≤ k → (at ≡ carriedAt s) × (ats ≡ atsIn s) × (lens ≡ lensIn s)
 unfolding numbers lengthsOf startsOf endOf
 filling-end {s} {i} {k} {at} {ats} {lens} f h =
     let z : left k (f .rest) ≡ [] = ap (λ (ns : List ℕ). lengthsOf ns (f .rest)) (drop-of-length-le numbers h) in

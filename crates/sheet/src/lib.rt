@@ -1,9 +1,11 @@
 // Judging a sheet, and telling where each element stands in it: document 01, "The sheet". The sheet is lent and stays the same.
 // What the answer means is said in `specs/Scanning.antt`, over the definitions of `format`.
 use format::NumberAnswer;
+use rows::PLACES;
 ghost use mathlib.Core.Path.{_≡_};
 ghost use Prim.Native.Nat.{_+_, _≤_};
 ghost use lib.ListN.{length};
+ghost use Rattle.format.specs.Elements.{places};
 ghost use Rattle.format.specs.Sheet.{bodyAt, countIn, entriesIn, rightSheet, goodValues};
 ghost use Rattle.sheet.specs.Heads.{RightOf, HeadOf};
 ghost use Rattle.sheet.specs.Scanning.{atsIn, lensIn, carriedAt, Scanned};
@@ -103,13 +105,13 @@ fn good_values(sheet: &[u8], count: usize) -> bool
 // Where each element stands in a right sheet: its numbers rise as those of the table do, so the next entry has the next number, or there is
 // no entry with that. Answers where the carried blocks begin.
 fn fill_row(sheet: &[u8], count: usize, ats: &mut [usize], lens: &mut [usize]) -> usize
-    requires { ⌜ RightOf (now sheet) count × (length (now ats) ≡ 7) × (length (now lens) ≡ 7) ⌝ }
+    requires { ⌜ RightOf (now sheet) count × (length (now ats) ≡ places) × (length (now lens) ≡ places) ⌝ }
     ensures { λ r. ⌜ (r ≡ carriedAt (now (sheet .entry))) × (now (ats .exit) ≡ atsIn (now (sheet .entry))) × (now (lens .exit) ≡ lensIn (now (sheet .entry))) ⌝ }
 {
     let mut at = 2 + 4 * count;
     let mut next: usize = 0;
     let mut k: usize = 0;
-    while k < 7 {
+    while k < PLACES {
         ats[k] = at;
         let mut len: usize = 0;
         if next < count {
@@ -128,7 +130,7 @@ fn fill_row(sheet: &[u8], count: usize, ats: &mut [usize], lens: &mut [usize]) -
 
 // Judges a sheet: 8 where header, order, offsets or end are wrong; 9 where a number is unknown, a value bad, or 4 or 5 missing; else
 // where each element stands, and the place where the carried blocks begin.
-pub fn scan(sheet: &[u8], ats: &mut [usize; 7], lens: &mut [usize; 7]) -> NumberAnswer
+pub fn scan(sheet: &[u8], ats: &mut [usize; PLACES], lens: &mut [usize; PLACES]) -> NumberAnswer
     ensures { λ r. ⌜ Scanned (now (sheet .entry)) (now (ats .entry)) (now (lens .entry)) r (now (ats .exit)) (now (lens .exit)) ⌝ }
 {
     if !right(sheet) {

@@ -1,6 +1,7 @@
 // Writing a sheet onto a tag.
 use format::NumberAnswer;
 use format::Stage;
+use rows::PLACES;
 ghost use mathlib.Core.Path.{_≡_};
 ghost use mathlib.Core.Bool.{true, _&&_};
 ghost use lib.ListN.{length};
@@ -32,8 +33,8 @@ fn write_on(draft: &mut [u8], sheet: &[u8], tag: &mut [u8], locks: &[u8]) -> Num
     requires { ⌜ Fresh (now draft) (now tag) × ((goodSize pageSize (length (now tag)) && lockMap pageSize (now locks) (length (now tag))) ≡ true) ⌝ }
     ensures { λ r. ⌜ Writes (now (sheet .entry)) (now (tag .entry)) (now (locks .entry)) r (now (tag .exit)) ⌝ }
 {
-    let mut ats = [0usize; 7];
-    let mut lens = [0usize; 7];
+    let mut ats = [0usize; PLACES];
+    let mut lens = [0usize; PLACES];
     let scanned = sheet::scan(sheet, &mut ats, &mut lens);
     let NumberAnswer::Done(carried) = scanned else {
         return scanned;

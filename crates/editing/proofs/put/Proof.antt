@@ -3,7 +3,7 @@ use mathlib.Core.Path.{ap}
 use Prim.Native.Nat.{ℕ, _+_, _<_}
 use native.Mathlib.Omega.{arith}
 use lib.ListN.{length, getD, set}
-use Rattle.format.specs.Elements.{numbers}
+use Rattle.format.specs.Elements.{places, numbers}
 use Rattle.format.proofs.Slots.{known-at}
 use borrow.Author.Needs.{needs}
 use Rattle.editing.proofs.put.Statement.{statement}
@@ -13,7 +13,7 @@ place-of-requires : tie.Need-place-of-requires
 place-of-requires c κs = search needs
 
 -- a known number has a place
-within : (k : tie.After-place-of) → k .place-of .result < 7
+within : (k : tie.After-place-of) → k .place-of .result < places
 unfolding numbers
 within k = omega (arith, k .place-of .ensures, known-at _ (k .before .before .pre .0) .0)
 

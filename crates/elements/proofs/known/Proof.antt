@@ -3,7 +3,7 @@ use mathlib.Core.Path.{ap}
 use Prim.Native.Nat.{ℕ}
 use lib.Dec.{ltb}
 use borrow.Author.Needs.{needs}
-use Rattle.format.specs.Elements.{numbers, known}
+use Rattle.format.specs.Elements.{places, numbers, known}
 use Rattle.elements.proofs.known.Statement.{statement}
 use Rattle.elements.proofs.known.Tie as tie
 
@@ -12,7 +12,7 @@ place-of-requires c κs = search needs
 
 returns : tie.Need-returns
 unfolding known numbers
-returns c = ap (λ (k : ℕ). ltb k 7) (c .place-of .ensures)
+returns c = ap (λ (k : ℕ). ltb k places) (c .place-of .ensures)
 
 pub known-spec : {M : Type 1} → statement M
 known-spec = tie.close (tie.spec place-of-requires returns)

@@ -2,19 +2,16 @@
 use mathlib.Core.Path.{refl}
 use borrow.Author.Tests.{eq-eqb, ne-eqb}
 use borrow.Author.Needs.{needs}
-use Rattle.format.specs.Elements.{shape}
 use Rattle.elements.proofs.media.Statement.{statement}
 use Rattle.elements.proofs.media.Tie as tie
 
 returns : tie.Need-returns
-unfolding shape
 returns c = rw (ne-eqb _ 1 (c .if1 .taken)) refl
 
 shared-slice-read-result : tie.Need-shared-slice-read-result
 shared-slice-read-result c = search needs
 
 returns-2 : tie.Need-returns-2
-unfolding shape
 returns-2 c = rw (eq-eqb _ 1 (c .before .if1 .left)) refl
 
 pub media-spec : {M : Type 1} → statement M

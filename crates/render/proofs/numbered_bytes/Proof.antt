@@ -6,6 +6,7 @@ use native.Mathlib.Omega.{arith}
 use mathlib.Core.List.{_++_}
 use borrow.Author.Needs.{needs}
 use lib.ListN.{length, drop, drop-of-length-le}
+use Rattle.format.specs.Elements.{places}
 use Rattle.format.specs.Bytes.{joined}
 use Rattle.format.proofs.Pieces.{stored-none}
 use Rattle.rows.specs.Rows.{slotsAt}
@@ -16,10 +17,10 @@ use Rattle.render.proofs.numbered_bytes.Tie as tie
 
 abbrev Inv-loop : tie.InvT-loop
 Inv-loop sheet₀ at tag made ats lens end₀ k₀ sheet end k =
-    (k ≤ 7) × Storing sheet₀ at (joined (slotsAt (tag ++ made) ats lens)) sheet (slotsAt (tag ++ made) (drop k ats) (drop k lens)) end
+    (k ≤ places) × Storing sheet₀ at (joined (slotsAt (tag ++ made) ats lens)) sheet (slotsAt (tag ++ made) (drop k ats) (drop k lens)) end
 
 abbrev μ-loop : tie.MeasureT-loop
-μ-loop sheet₀ at tag made ats lens end₀ k₀ sheet end k = 7 - k
+μ-loop sheet₀ at tag made ats lens end₀ k₀ sheet end k = places - k
 
 abbrev start : tie.In-loop Inv-loop μ-loop → tie.Start Inv-loop μ-loop
 start c = c .before .before .before .before .before

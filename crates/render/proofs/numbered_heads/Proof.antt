@@ -7,7 +7,7 @@ use mathlib.Core.List.{List}
 use borrow.Author.Needs.{needs}
 use lib.ListN.{length, getD, drop, drop-of-length-le}
 use Rattle.format.specs.Bytes.{joined, le16}
-use Rattle.format.specs.Elements.{numbers}
+use Rattle.format.specs.Elements.{places, numbers}
 use Rattle.format.proofs.Tests.{bytes-at}
 use Rattle.format.proofs.Pieces.{stored-none}
 use Rattle.render.specs.Rendering.{headsBy}
@@ -18,17 +18,17 @@ use Rattle.render.proofs.numbered_heads.Tie as tie
 
 abbrev Inv-loop : tie.InvT-loop
 Inv-loop sheet₀ offset lens at₀ from₀ k₀ sheet at from k =
-    (k ≤ 7) × (from ≤ 65535 + 255 * k) × Storing sheet₀ 2 (joined (headsBy offset numbers lens)) sheet (headsBy from (drop k numbers) (drop k lens)) at
+    (k ≤ places) × (from ≤ 65535 + 255 * k) × Storing sheet₀ 2 (joined (headsBy offset numbers lens)) sheet (headsBy from (drop k numbers) (drop k lens)) at
 
 abbrev μ-loop : tie.MeasureT-loop
-μ-loop sheet₀ offset lens at₀ from₀ k₀ sheet at from k = 7 - k
+μ-loop sheet₀ offset lens at₀ from₀ k₀ sheet at from k = places - k
 
 abbrev lens : tie.In-loop Inv-loop μ-loop → List ℕ
 lens c = c .before .before .before .args .lens .now
 
 -- a row has an element at place k, of at most 255 bytes
 here : (c : tie.In-loop Inv-loop μ-loop) → (c .before .loop .k < length (lens c)) × (getD (lens c) (c .before .loop .k) 0 ≤ 255)
-here c = let p = c .before .before .before .pre .1 in (omega (arith, p .seven), bytes-at (c .before .loop .k) (lens c) (p .small))
+here c = let p = c .before .before .before .pre .1 in (omega (arith, p .each), bytes-at (c .before .loop .k) (lens c) (p .small))
 
 put-head-requires : tie.Need-put-head-requires Inv-loop μ-loop
 unfolding numbers le16

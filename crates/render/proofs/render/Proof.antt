@@ -5,6 +5,7 @@ use Prim.Native.Nat.{ℕ, _*_, _≤_}
 use native.Mathlib.Omega.{arith}
 use lib.ListN.{length, drop, length-set}
 use borrow.Author.Needs.{needs}
+use Rattle.format.specs.Elements.{places}
 use Rattle.format.specs.Answers.{got}
 use Rattle.format.specs.Numbers.{numberOf, stageGiven}
 use Rattle.rows.proofs.Rows.{row-lengths}
@@ -18,8 +19,8 @@ use Rattle.render.proofs.render.Tie as tie
 abbrev start : tie.After-numbered-count → tie.Start
 start c = c .before .before .before .before .before .before
 
--- a row has seven elements, and a tag few blocks
-limits : (c : tie.After-numbered-count) → let a = start c .args in (c .numbered-count .result ≤ 7) × (3 * a .count ≤ a .size) × (a .size ≤ 2048)
+-- a row has few elements, and a tag few blocks
+limits : (c : tie.After-numbered-count) → let a = start c .args in (c .numbered-count .result ≤ places) × (3 * a .count ≤ a .size) × (a .size ≤ 2048)
 limits c = let f = few-blocks (start c .pre) in (omega (arith, c .numbered-count .ensures .0, c .before .numbered-count-arg .given), f .0, f .1)
 
 module _ (c : tie.After-numbered-size) where
@@ -32,7 +33,7 @@ module _ (c : tie.After-numbered-size) where
   counted : let a = entry .args in Counted (a .tag .now) (a .made .now) (a .ats .now) (a .lens .now) (a .count) (a .size) (a .blocks .now) (c .before .numbered-count .result) (c .numbered-size .result)
   counted = record {
     given = entry .pre;
-    seven = c .before .before .numbered-count-arg .given .0;
+    each = c .before .before .numbered-count-arg .given .0;
     few = limits (c .before) .0;
     elements = c .before .numbered-count .ensures .1;
     small = c .numbered-size .ensures .0;
@@ -91,7 +92,7 @@ numbered-heads-requires : tie.Need-numbered-heads-requires
 numbered-heads-requires c κs =
     let k = sized (c .before) in
     let x = counted k in
-    (omega (arith, short x), record { seven = x .seven; small = x .given .lengths }, next-room (begun x (sheet k) (roomy (c .before))) refl)
+    (omega (arith, short x), record { each = x .each; small = x .given .lengths }, next-room (begun x (sheet k) (roomy (c .before))) refl)
 
 carried-heads-requires : tie.Need-carried-heads-requires
 carried-heads-requires c κs =
@@ -103,7 +104,7 @@ numbered-bytes-requires : tie.Need-numbered-bytes-requires
 numbered-bytes-requires c κs =
     let d = c .before .before .before in
     let x = counted (sized (after-2 d)) in
-    (x .given .row, omega (arith, x .seven, row-lengths _ _ _ _ (x .given .row)), next-room (filled-2 d) refl)
+    (x .given .row, omega (arith, x .each, row-lengths _ _ _ _ (x .given .row)), next-room (filled-2 d) refl)
 
 put-bytes-requires : tie.Need-put-bytes-requires
 put-bytes-requires c κs = let d = c .before .before .before .before in rw (entry (sized (after-3 d)) .pre .piece (c .before .if1 .taken)) (next-room (filled-3 d) refl)

@@ -2,7 +2,7 @@
 use mathlib.Core.Path.{sym, _∙_}
 use Prim.Native.Nat.{_-_}
 use borrow.Author.Needs.{needs}
-use Rattle.format.specs.Elements.{numbers}
+use Rattle.format.specs.Elements.{places, numbers}
 use Rattle.rows.proofs.Table.{Sought, sought-start, sought-found, sought-on, sought-over}
 use Rattle.rows.proofs.place_of.Statement.{statement}
 use Rattle.rows.proofs.place_of.Tie as tie
@@ -11,7 +11,7 @@ abbrev Inv-loop : tie.InvT-loop
 Inv-loop number k₀ k = Sought number k
 
 abbrev μ-loop : tie.MeasureT-loop
-μ-loop number k₀ k = 7 - k
+μ-loop number k₀ k = places - k
 
 loop-holds : tie.Need-loop-holds Inv-loop μ-loop
 loop-holds c = sought-start (c .args .number)

@@ -4,6 +4,7 @@ use mathlib.Core.Logic.{⊎-elim}
 use Prim.Native.Nat.{_-_}
 use native.Mathlib.Omega.{arith}
 use borrow.Author.Needs.{needs}
+use Rattle.format.specs.Elements.{places}
 use Rattle.sheet.proofs.Walking.{Filling, filling-start, filling-none, filling-hit, filling-miss, filling-end}
 use Rattle.sheet.proofs.fill_row.Statement.{statement}
 use Rattle.sheet.proofs.fill_row.Tie as tie
@@ -12,7 +13,7 @@ abbrev Inv-loop : tie.InvT-loop
 Inv-loop sheet count ats₀ lens₀ at₀ next₀ k₀ ats lens at next k = Filling sheet next k at ats lens
 
 abbrev μ-loop : tie.MeasureT-loop
-μ-loop sheet count ats₀ lens₀ at₀ next₀ k₀ ats lens at next k = 7 - k
+μ-loop sheet count ats₀ lens₀ at₀ next₀ k₀ ats lens at next k = places - k
 
 mul-at : tie.Need-mul-at Inv-loop μ-loop
 mul-at c = search needs
