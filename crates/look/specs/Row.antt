@@ -9,18 +9,12 @@ use lib.ListN.{length, getD, take, drop, set}
 use lib.Dec.{eqb}
 use Rattle.format.specs.declared.Part.{Part}
 use Rattle.format.specs.Bytes.{if_then_else_, part}
+use Rattle.format.specs.Pieces.{from, nowhere}
 use Rattle.format.specs.Fields.{hyphen, alternate}
 use Rattle.format.specs.Reading.{mainUsage}
 use Rattle.fields.specs.declared.ItemParts.{ItemParts}
 use Rattle.fields.specs.declared.OwnerParts.{OwnerParts}
 use Rattle.fields.specs.declared.LibraryParts.{LibraryParts}
-
--- `len` bytes from `at` on; and none
-abbrev pub from : ℕ → ℕ → Part
-from at len = record { at = at; len = len }
-
-abbrev pub nowhere : Part
-nowhere = from 0 0
 
 -- ---- items: block 1, which begins at `block`, has its item field from its byte 5 on; that is element 1 under the marker, else 22
 

@@ -49,7 +49,6 @@ pub fn look_at(tag: &[u8], ats: &mut [usize; 7], lens: &mut [usize; 7], made: &m
     let survey = chain::survey_of(tag);
     let Survey::Whole {
         library,
-        length,
         count,
         size,
         end,
@@ -57,11 +56,7 @@ pub fn look_at(tag: &[u8], ats: &mut [usize; 7], lens: &mut [usize; 7], made: &m
     else {
         return Look::Refused(chain::survey_refusal(survey));
     };
-    let block = Part {
-        at: library,
-        len: length,
-    };
-    let found = judge::find_fields(tag, block);
+    let found = judge::find_fields(tag, library);
     let FieldsFound::Good(item, owner, fields) = found else {
         return Look::Refused(Refusal::Plain(judge::fields_number(found)));
     };
@@ -69,8 +64,8 @@ pub fn look_at(tag: &[u8], ats: &mut [usize; 7], lens: &mut [usize; 7], made: &m
     let Stage::Passed = agreed else {
         return Look::Refused(Refusal::Plain(format::stage_number(agreed)));
     };
-    row::fill_row(tag, library, item, owner, fields, ats, lens, made);
-    let blocks = row::one_piece(library, length, size, end);
+    row::fill_row(tag, library.at, item, owner, fields, ats, lens, made);
+    let blocks = row::one_piece(library.at, library.len, size, end);
     Look::Seen(View {
         count,
         size,
