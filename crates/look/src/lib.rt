@@ -65,7 +65,7 @@ pub fn look_at(tag: &[u8], ats: &mut [usize; 7], lens: &mut [usize; 7], made: &m
         return Look::Refused(Refusal::Plain(format::stage_number(agreed)));
     };
     row::fill_row(tag, library.at, item, owner, fields, ats, lens, made);
-    let blocks = row::one_piece(library.at, library.len, size, end);
+    let blocks = row::one_piece(library, size, end);
     Look::Seen(View {
         count,
         size,
