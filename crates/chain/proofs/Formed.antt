@@ -10,9 +10,9 @@ use lib.ListN.{length, getD, drop}
 use borrow.Author.Tests.{eqb-true, eq-eqb, ne-eqb, leb-true, leb-false}
 use Rattle.format.specs.Bytes.{if_then_else_, oneOf, xorAll}
 use Rattle.format.specs.Answers.{placed, got, refused, needAt, inOrder}
-use Rattle.format.specs.Chain.{lengthOf, idOf, whole, structured, named, summed, wellFormed, damageSteps, damageOf}
+use Rattle.format.specs.Chain.{lengthOf, idOf, whole, structured, named, summed, wellFormed, single, damageSteps, damageOf}
 use Rattle.format.specs.Numbers.{numberOf}
-use Rattle.format.proofs.Tests.{same-truth, and-i}
+use Rattle.format.proofs.Tests.{same-truth, and-i, and-left}
 use Rattle.format.proofs.Damages.{number-none}
 use Rattle.format.proofs.Xor.{xor-assoc}
 use Rattle.chain.specs.Formed.{damageBy, formedBy}
@@ -31,7 +31,7 @@ xor-behind (y ∷ r) =
 
 -- ---- a block that is as long as it says
 
-numbered : (p : ℕ) (seen : List ℕ) (b : List ℕ) → (lengthOf b ≡ 2 → ⊥) → lengthOf b ≡ length b → (n s o : Bool) → named b ≡ n → summed b ≡ s → oneOf seen (idOf b) ≡ o
+numbered : (p : ℕ) (seen : List ℕ) (b : List ℕ) → (lengthOf b ≡ 2 → ⊥) → lengthOf b ≡ length b → (n s o : Bool) → named b ≡ n → summed b ≡ s → single (idOf b) && oneOf seen (idOf b) ≡ o
     → numberOf (damageOf p seen b) ≡ (if not n then 17 else if not s then 18 else if o then 19 else 0)
 unfolding damageSteps needAt inOrder
 numbered p seen b two says false s o en es eo = rw (ne-eqb (lengthOf b) 2 two, eq-eqb (lengthOf b) (length b) says, en)
@@ -52,8 +52,11 @@ module _ (b : List ℕ) (high : structured b ≡ false) where
   unfolding summed
   high-summed = rw high
 
-  pub unstructured : (p : ℕ) (seen : List ℕ) → oneOf seen (idOf b) ≡ false → (lengthOf b ≡ 2 → ⊥) → lengthOf b ≡ length b → damageOf p seen b ≡ got tt
-  unstructured p seen once two says = number-none p seen b (numbered p seen b two says true true false high-named high-summed once)
+  high-many : single (idOf b) ≡ false
+  high-many = ne-eqb (idOf b) 1 (λ e. let h : 100 < idOf b = leb-false (idOf b) 100 high in omega arith)
+
+  pub unstructured : (p : ℕ) (seen : List ℕ) → (lengthOf b ≡ 2 → ⊥) → lengthOf b ≡ length b → damageOf p seen b ≡ got tt
+  unstructured p seen two says = number-none p seen b (numbered p seen b two says true true false high-named high-summed (and-left (single (idOf b)) _ high-many))
 
 -- an ID of 1 to 100 asks for both
 module _ (b : List ℕ) (x : ℕ) (low : structured b ≡ true) (says : lengthOf b ≡ length b) (sum : x ≡ xorAll (drop 1 b)) where
@@ -69,8 +72,8 @@ module _ (b : List ℕ) (x : ℕ) (low : structured b ≡ true) (says : lengthOf
       go false true = refl
       go false false = refl
 
-  pub damage-by : (p : ℕ) (seen : List ℕ) → (lengthOf b ≡ 2 → ⊥) → damageBy (lengthOf b) (idOf b) x (oneOf seen (idOf b)) ≡ numberOf (damageOf p seen b)
-  damage-by p seen two = by-tests (oneOf seen (idOf b)) ∙ sym (numbered p seen b two says (named b) (summed b) (oneOf seen (idOf b)) refl refl refl)
+  pub damage-by : (p : ℕ) (seen : List ℕ) → (lengthOf b ≡ 2 → ⊥) → damageBy (lengthOf b) (idOf b) x (single (idOf b) && oneOf seen (idOf b)) ≡ numberOf (damageOf p seen b)
+  damage-by p seen two = by-tests _ ∙ sym (numbered p seen b two says (named b) (summed b) _ refl refl refl)
 
   well-by : (n s : Bool) → eqb (if not n then 17 else if not s then 18 else 0) 0 ≡ n && s
   well-by false s = refl

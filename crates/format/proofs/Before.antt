@@ -13,7 +13,7 @@ use Rattle.format.specs.Bytes.{if_then_else_, isEmpty, all, oneOf, same,
 use Rattle.format.specs.Pages.{count, changed}
 use Rattle.format.specs.Text.{rows, after, rowsFrom, text}
 use Rattle.format.specs.Fields.{isilOf, isil, alternate, alternative, isOwner, marked, goodItem, prefixIn, goodOwner}
-use Rattle.format.specs.Chain.{named, summed, damageSteps, seenWith, walk, chain, Library, blockOf, payload, lastField, libraryIn, goodLibrary, sealed}
+use Rattle.format.specs.Chain.{named, summed, damageSteps, walk, chain, Library, blockOf, payload, lastField, libraryIn, goodLibrary, sealed}
 use Rattle.format.specs.Elements.{numbers, required, setInfo, shape, form, known, value, el, put}
 use Rattle.format.specs.Sheet.{Entry, entriesIn, find, present, goodValues}
 use Rattle.format.specs.Layout.{image}
@@ -216,7 +216,7 @@ places rule =
 
 -- it was refused in each, and passes in each
 pub places-opened : (all not (places textBefore) ≡ true) × (all (λ b. b) (places text) ≡ true)
-unfolding all oneOf textBefore text rowsFrom rows after goodFieldsBy goodOwnerBy goodLibraryBy isOwnerBy alternativeBy goodValuesBy valueBy formBy shapeBy shape isilOf isil prefixIn upTo past strip trim same payload lastField libraryIn blockOf sealed le16 word xorAll chain walk seenWith damageSteps named summed needAt inOrder andThen orElse numbers setInfo find
+unfolding all oneOf textBefore text rowsFrom rows after goodFieldsBy goodOwnerBy goodLibraryBy isOwnerBy alternativeBy goodValuesBy valueBy formBy shapeBy shape isilOf isil prefixIn upTo past strip trim same payload lastField libraryIn blockOf sealed le16 word xorAll chain walk damageSteps named summed needAt inOrder andThen orElse numbers setInfo find
 places-opened = (refl, refl)
 
 -- a byte alone is text where it was

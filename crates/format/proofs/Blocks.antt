@@ -13,7 +13,7 @@ use Rattle.format.specs.Answers.{got, andThen}
 use Rattle.format.specs.Bytes.{if_then_else_, isEmpty, all, oneOf, le16, word, xorAll, strip, past, joined, trim}
 use Rattle.format.specs.Text.{text}
 use Rattle.format.specs.Fields.{isOwner}
-use Rattle.format.specs.Chain.{lengthOf, idOf, whole, named, summed, wellFormed, takenApart, carriable, single, damageSteps, damageOf, seenWith, walk, chain, blockOf, otherBlocks, Library, payload, lastField, libraryIn, goodLibrary, libraryBytes, sealed, blockOne}
+use Rattle.format.specs.Chain.{lengthOf, idOf, whole, named, summed, wellFormed, takenApart, carriable, single, damageSteps, damageOf, walk, chain, blockOf, otherBlocks, Library, payload, lastField, libraryIn, goodLibrary, libraryBytes, sealed, blockOne}
 use Rattle.format.proofs.Tests.{and-l, and-r, and-i, not-t}
 use Rattle.format.proofs.Answers.{need-at-ok, need-at-inv, then-ok, first-ok, first-inv, none-ok}
 use Rattle.format.proofs.Strings.{word-le16, solid, up-to-before, past-before, strip-strip, head-strip, drop-strip, up-to-strip, past-strip}
@@ -79,8 +79,8 @@ carried-facts b h = (and-l (wellFormed b) (not (takenApart b)) h, not-t (takenAp
 
 -- ---- its damage
 
--- a well-formed block that is no second of its ID has none
-pub no-damage : (p : ℕ) (seen : List ℕ) (b : List ℕ) → wellFormed b ≡ true → not (oneOf seen (idOf b)) ≡ true → damageOf p seen b ≡ got tt
+-- a well-formed block that is no second block 1 has none
+pub no-damage : (p : ℕ) (seen : List ℕ) (b : List ℕ) → wellFormed b ≡ true → not (single (idOf b) && oneOf seen (idOf b)) ≡ true → damageOf p seen b ≡ got tt
 unfolding damageSteps
 no-damage p seen b w o =
     let k = well-facts b w in
@@ -89,7 +89,7 @@ no-damage p seen b w o =
     ∙ first-ok _ _ tt (need-at-ok p 17 _ (k .good-name)) ∙ first-ok _ _ tt (need-at-ok p 18 _ (k .good-sum)) ∙ first-ok _ _ tt (need-at-ok p 19 _ o) ∙ none-ok tt
 
 -- and one that has none, and is no filler, is well formed
-pub undamaged : (p : ℕ) (seen : List ℕ) (b : List ℕ) (u : Unit {0}) → 2 ≤ lengthOf b → damageOf p seen b ≡ got u → (wellFormed b ≡ true) × (not (oneOf seen (idOf b)) ≡ true)
+pub undamaged : (p : ℕ) (seen : List ℕ) (b : List ℕ) (u : Unit {0}) → 2 ≤ lengthOf b → damageOf p seen b ≡ got u → (wellFormed b ≡ true) × (not (single (idOf b) && oneOf seen (idOf b)) ≡ true)
 unfolding damageSteps wellFormed
 undamaged p seen b u two e =
     let l = first-inv _ _ tt u e in
@@ -112,8 +112,8 @@ some-block n z o =
     omega arith
 
 -- a block at the front is taken, and the walk goes on behind it
-step : (f p : ℕ) (seen : List ℕ) (b r : List ℕ) → wellFormed b ≡ true → not (oneOf seen (idOf b)) ≡ true
-    → walk (suc f) p seen (b ++ r) ≡ andThen (walk f (p + length b) (seenWith b seen) r) (λ bs. got (b ∷ bs))
+step : (f p : ℕ) (seen : List ℕ) (b r : List ℕ) → wellFormed b ≡ true → not (single (idOf b) && oneOf seen (idOf b)) ≡ true
+    → walk (suc f) p seen (b ++ r) ≡ andThen (walk f (p + length b) (idOf b ∷ seen) r) (λ bs. got (b ∷ bs))
 unfolding walk
 step f p seen b r w o =
     let k = well-facts b w in
@@ -128,20 +128,20 @@ walk-zeros (suc f) p zero seen = refl
 walk-zeros (suc f) p (suc m) seen = refl
 
 -- carried blocks, and 00 to the end
-walk-carried : (f p m : ℕ) (seen : List ℕ) (bs : List (List ℕ)) → ((id : ℕ) → single id ≡ false → oneOf seen id ≡ false) → all carriable bs ≡ true
-    → length (joined bs ++ replicate m 0) ≤ f → walk f p seen (joined bs ++ replicate m 0) ≡ got bs
-unfolding all joined seenWith
-walk-carried f p m seen [] free h l = walk-zeros f p m seen
-walk-carried zero p m seen (b ∷ bs) free h l =
+walk-carried : (f p m : ℕ) (seen : List ℕ) (bs : List (List ℕ)) → all carriable bs ≡ true → length (joined bs ++ replicate m 0) ≤ f
+    → walk f p seen (joined bs ++ replicate m 0) ≡ got bs
+unfolding all joined
+walk-carried f p m seen [] h l = walk-zeros f p m seen
+walk-carried zero p m seen (b ∷ bs) h l =
     let k = well-facts b (carried-facts b (and-l (carriable b) (all carriable bs) h) .0) in
     absurd (omega (arith, length-append (b ++ joined bs) (replicate m 0), length-append b (joined bs), k .long))
-walk-carried (suc f) p m seen (b ∷ bs) free h l =
+walk-carried (suc f) p m seen (b ∷ bs) h l =
     let c = carried-facts b (and-l (carriable b) (all carriable bs) h) in
     let r : List ℕ = joined bs ++ replicate m 0 in
     let k : length r ≤ f = omega (arith, length-append b r, ap length (append-assoc b (joined bs) (replicate m 0)), well-facts b (c .0) .long) in
     rw (append-assoc b (joined bs) (replicate m 0))
-    (step f p seen b r (c .0) (ap not (free (idOf b) (c .1)))
-    ∙ rw (c .1) (then-ok (walk f (p + length b) seen r) (λ cs. got (b ∷ cs)) bs (walk-carried f (p + length b) m seen bs free (and-r (carriable b) (all carriable bs) h) k)))
+    (step f p seen b r (c .0) (rw (c .1) refl)
+    ∙ then-ok (walk f (p + length b) (idOf b ∷ seen) r) (λ cs. got (b ∷ cs)) bs (walk-carried f (p + length b) m (idOf b ∷ seen) bs (and-r (carriable b) (all carriable bs) h) k))
 
 -- ---- block 1
 
@@ -215,11 +215,11 @@ pub record Laid (p : ℕ) (one : List ℕ) (cs : List (List ℕ)) (m : ℕ) : Ty
   pub others : otherBlocks bs ≡ cs
 
 pub chain-laid : (p : ℕ) (f : Library) (cs : List (List ℕ)) (m : ℕ) → all carriable cs ≡ true → Laid p (blockOne f) cs m
-unfolding blockOne chain blockOf otherBlocks sealed le16 word seenWith oneOf
+unfolding blockOne chain blockOf otherBlocks sealed le16 word oneOf
 chain-laid p f cs m h = go (libraryBytes f)
   where
     go : (q : List ℕ) → Laid p (if isEmpty q then [] else sealed 1 q) cs m
-    go [] = let r = no-library cs h in record { bs = cs; walks = walk-carried _ p m [] cs (λ id e. refl) h (le-refl _); library = r .0; others = r .1 }
+    go [] = let r = no-library cs h in record { bs = cs; walks = walk-carried _ p m [] cs h (le-refl _); library = r .0; others = r .1 }
     go (x ∷ q) =
         let b : List ℕ = sealed 1 (x ∷ q) in
         let r : List ℕ = joined cs ++ replicate m 0 in
@@ -227,7 +227,7 @@ chain-laid p f cs m h = go (libraryBytes f)
         record {
           bs = b ∷ cs;
           walks = step (length (drop 1 b ++ r)) p [] b r (sealed-well 1 (x ∷ q) (omega arith) (omega arith)) refl
-              ∙ then-ok (walk (length (drop 1 b ++ r)) (p + length b) (1 ∷ []) r) (λ bs. got (b ∷ bs)) cs (walk-carried (length (drop 1 b ++ r)) (p + length b) m (1 ∷ []) cs (λ id e. rw e) h (omega (arith, length-append (drop 1 b) r)));
+              ∙ then-ok (walk (length (drop 1 b ++ r)) (p + length b) (1 ∷ []) r) (λ bs. got (b ∷ bs)) cs (walk-carried (length (drop 1 b ++ r)) (p + length b) m (1 ∷ []) cs h (omega (arith, length-append (drop 1 b) r)));
           library = refl;
           others = n .1;
         }

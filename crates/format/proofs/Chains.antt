@@ -4,15 +4,15 @@ use mathlib.Core.Path.{_≡_, refl, sym, ap, _∙_, subst}
 use Prim.Native.Nat.{ℕ, zero, suc, _+_, _-_, _≤_, _<_}
 use native.Mathlib.Nat.{add-zero}
 use native.Mathlib.Omega.{arith}
-use mathlib.Core.Bool.{Bool, true, false, not}
+use mathlib.Core.Bool.{Bool, true, false}
 use mathlib.Core.List.{List, [], _∷_}
 use lib.Dec.{eqb, leb}
 use lib.ListN.{length, take, drop, getD, length-take, length-drop, length-append, List·getD-eq-default}
 use lib.Seq.{getD-drop, getD-take, drop-drop}
 use borrow.Author.Tests.{eqb-true, eqb-false, ne-eqb, leb-true, leb-false}
 use Rattle.format.specs.Answers.{Answer, got, andThen}
-use Rattle.format.specs.Bytes.{if_then_else_, oneOf, joined}
-use Rattle.format.specs.Chain.{lengthOf, idOf, wellFormed, damageOf, seenWith, walk, chain}
+use Rattle.format.specs.Bytes.{if_then_else_, joined}
+use Rattle.format.specs.Chain.{lengthOf, idOf, wellFormed, damageOf, walk, chain}
 use Rattle.format.specs.Reading.{walked}
 use Rattle.format.specs.Damage.{blockAt}
 use Rattle.format.proofs.Answers.{got-inj, then-inv}
@@ -34,7 +34,7 @@ turn next a s =
     let n : ℕ = getD s 0 0 in
     if eqb n 0 then got [] else
     if eqb n 1 then next (a .0 + 1, a .1) (drop 1 s) else
-    blockThen (a .0) (a .1) (take n s) (next (a .0 + n, seenWith (take n s) (a .1)) (drop n s))
+    blockThen (a .0) (a .1) (take n s) (next (a .0 + n, idOf (take n s) ∷ a .1) (drop n s))
 
 turn-shortens : (f g : Walk) (a : ℕ × List ℕ) (s : List ℕ) → ((later : ℕ × List ℕ) (r : List ℕ) → length r < length s → f later r ≡ g later r) → turn f a s ≡ turn g a s
 unfolding turn
@@ -47,14 +47,14 @@ turn-shortens f g a s h = go (eqb n 0) refl (eqb n 1)
     b = take n s
 
     go : (x : Bool) → eqb n 0 ≡ x → (y : Bool)
-        → (if x then got [] else if y then f (a .0 + 1, a .1) (drop 1 s) else blockThen (a .0) (a .1) b (f (a .0 + n, seenWith b (a .1)) (drop n s)))
-        ≡ (if x then got [] else if y then g (a .0 + 1, a .1) (drop 1 s) else blockThen (a .0) (a .1) b (g (a .0 + n, seenWith b (a .1)) (drop n s)))
+        → (if x then got [] else if y then f (a .0 + 1, a .1) (drop 1 s) else blockThen (a .0) (a .1) b (f (a .0 + n, idOf b ∷ a .1) (drop n s)))
+        ≡ (if x then got [] else if y then g (a .0 + 1, a .1) (drop 1 s) else blockThen (a .0) (a .1) b (g (a .0 + n, idOf b ∷ a .1) (drop n s)))
     go true e y = refl
     go false e true = h (a .0 + 1, a .1) (drop 1 s) (shorter s 1 (eqb-false n 0 e) (omega arith))
     go false e false =
         let z : n ≡ 0 → ⊥ = eqb-false n 0 e in
         let p : 1 ≤ n = omega arith in
-        ap (blockThen (a .0) (a .1) b) (h (a .0 + n, seenWith b (a .1)) (drop n s) (shorter s n z p))
+        ap (blockThen (a .0) (a .1) b) (h (a .0 + n, idOf b ∷ a .1) (drop n s) (shorter s n z p))
 
 counted : ℕ → Walk
 counted f a s = walk f (a .0) (a .1) s
@@ -93,7 +93,7 @@ chain-filler p seen s e = chain-turn p seen s ∙ rw e
 
 -- a block of n bytes
 pub chain-block : (p : ℕ) (seen : List ℕ) (n : ℕ) (s : List ℕ) → getD s 0 0 ≡ n → 2 ≤ n
-    → chainFrom p seen s ≡ blockThen p seen (take n s) (chainFrom (p + n) (seenWith (take n s) seen) (drop n s))
+    → chainFrom p seen s ≡ blockThen p seen (take n s) (chainFrom (p + n) (idOf (take n s) ∷ seen) (drop n s))
 unfolding turn
 chain-block p seen n s e h =
     let nonzero : n ≡ 0 → ⊥ = λ z. omega arith in
@@ -132,10 +132,10 @@ module _ (t : List ℕ) (at : ℕ) (seen : List ℕ) where
   filler-at e = chain-filler at seen (drop at t) (first-byte t at ∙ e) ∙ ap (chainFrom (at + 1) seen) (drop-drop 1 at t)
 
   pub block-at : 2 ≤ getD t at 0
-      → chainFrom at seen (drop at t) ≡ blockThen at seen (blockAt t at) (chainFrom (at + getD t at 0) (seenWith (blockAt t at) seen) (drop (at + getD t at 0) t))
+      → chainFrom at seen (drop at t) ≡ blockThen at seen (blockAt t at) (chainFrom (at + getD t at 0) (idOf (blockAt t at) ∷ seen) (drop (at + getD t at 0) t))
   block-at h =
       chain-block at seen (getD t at 0) (drop at t) (first-byte t at) h
-      ∙ ap (λ (r : List ℕ). blockThen at seen (blockAt t at) (chainFrom (at + getD t at 0) (seenWith (blockAt t at) seen) r)) (drop-drop (getD t at 0) at t)
+      ∙ ap (λ (r : List ℕ). blockThen at seen (blockAt t at) (chainFrom (at + getD t at 0) (idOf (blockAt t at) ∷ seen) r)) (drop-drop (getD t at 0) at t)
 
   -- what the first byte of a block says
   pub says-at : 1 ≤ getD t at 0 → lengthOf (blockAt t at) ≡ getD t at 0
@@ -163,9 +163,8 @@ stands t at w =
 pub record Ahead (t : List ℕ) (at : ℕ) (seen : List ℕ) (bs : List (List ℕ)) : Type 0 where
   pub rest : List (List ℕ)
   pub first : bs ≡ blockAt t at ∷ rest
-  pub behind : chainFrom (at + getD t at 0) (seenWith (blockAt t at) seen) (drop (at + getD t at 0) t) ≡ got rest
+  pub behind : chainFrom (at + getD t at 0) (idOf (blockAt t at) ∷ seen) (drop (at + getD t at 0) t) ≡ got rest
   pub well : wellFormed (blockAt t at) ≡ true
-  pub once : not (oneOf seen (idOf (blockAt t at))) ≡ true
   pub there : Stands t at
 
 module _ (t : List ℕ) (at : ℕ) (seen : List ℕ) (bs : List (List ℕ)) (whole : chainFrom at seen (drop at t) ≡ got bs) where
@@ -178,7 +177,7 @@ module _ (t : List ℕ) (at : ℕ) (seen : List ℕ) (bs : List (List ℕ)) (who
   pub block-ahead : 2 ≤ getD t at 0 → Ahead t at seen bs
   block-ahead h =
       let b : List ℕ = blockAt t at in
-      let more : Answer (List (List ℕ)) = chainFrom (at + getD t at 0) (seenWith b seen) (drop (at + getD t at 0) t) in
+      let more : Answer (List (List ℕ)) = chainFrom (at + getD t at 0) (idOf b ∷ seen) (drop (at + getD t at 0) t) in
       let i = then-inv (damageOf at seen b) (λ _. andThen more λ r. got (b ∷ r)) bs (sym (block-at t at seen h) ∙ whole) in
       let j = then-inv more (λ r. got (b ∷ r)) bs (i .2) in
       let w = undamaged at seen b (i .0) (omega (arith, says-at t at seen (omega arith))) (i .1) in
@@ -187,7 +186,6 @@ module _ (t : List ℕ) (at : ℕ) (seen : List ℕ) (bs : List (List ℕ)) (who
         first = sym (got-inj (j .2));
         behind = j .1;
         well = w .0;
-        once = w .1;
         there = stands t at (w .0);
       }
 
@@ -195,7 +193,7 @@ module _ (t : List ℕ) (at : ℕ) (seen : List ℕ) (bs : List (List ℕ)) (who
 pub by-places : (t : List ℕ) (P : ℕ → List ℕ → List (List ℕ) → Type 0)
     → ((at : ℕ) (seen : List ℕ) → getD t at 0 ≡ 0 → P at seen [])
     → ((at : ℕ) (seen : List ℕ) (bs : List (List ℕ)) → getD t at 0 ≡ 1 → P (at + 1) seen bs → P at seen bs)
-    → ((at : ℕ) (seen : List ℕ) (bs : List (List ℕ)) (a : Ahead t at seen bs) → P (at + getD t at 0) (seenWith (blockAt t at) seen) (a .rest) → P at seen bs)
+    → ((at : ℕ) (seen : List ℕ) (bs : List (List ℕ)) (a : Ahead t at seen bs) → P (at + getD t at 0) (idOf (blockAt t at) ∷ seen) (a .rest) → P at seen bs)
     → (f at : ℕ) (seen : List ℕ) (bs : List (List ℕ)) → length t ≤ at + f → chainFrom at seen (drop at t) ≡ got bs → P at seen bs
 by-places t P e f b zero at seen bs h w =
     let z : getD t at 0 ≡ 0 = past-end t at (omega arith) in
@@ -210,7 +208,7 @@ by-places t P e f b (suc k) at seen bs h w = go (eqb (getD t at 0) 0) refl (eqb 
         let z : getD t at 0 ≡ 0 → ⊥ = eqb-false (getD t at 0) 0 ex in
         let o : getD t at 0 ≡ 1 → ⊥ = eqb-false (getD t at 0) 1 ey in
         let a = block-ahead t at seen bs w (omega arith) in
-        b at seen bs a (ih (at + getD t at 0) (seenWith (blockAt t at) seen) (a .rest) (omega (arith, a .there .long)) (a .behind))
+        b at seen bs a (ih (at + getD t at 0) (idOf (blockAt t at) ∷ seen) (a .rest) (omega (arith, a .there .long)) (a .behind))
 
 -- together its blocks have no more bytes than are left
 pub chain-total : (t : List ℕ) (at : ℕ) (seen : List ℕ) (bs : List (List ℕ)) → chainFrom at seen (drop at t) ≡ got bs → length (joined bs) ≤ length t - at

@@ -10,7 +10,7 @@ use lib.ListN.{length, drop, getD}
 use borrow.Author.Tests.{eqb-true}
 use Rattle.format.specs.Answers.{Answer, Refusal, plain, placed, got, refused, Step, need, needAt, inOrder, andThen, passed}
 use Rattle.format.specs.Bytes.{oneOf}
-use Rattle.format.specs.Chain.{damageSteps, damageOf, seenWith}
+use Rattle.format.specs.Chain.{idOf, damageSteps, damageOf}
 use Rattle.format.specs.Reading.{walked, goodFields, agree, tagSteps}
 use Rattle.format.specs.Damage.{blockAt, Reached, start, filler, block, Damaged, Spoilt}
 use Rattle.format.specs.Numbers.{damageNumbers, numberOf}
@@ -83,7 +83,7 @@ found t (suc f) p seen x h r e = go (eqb n 0) refl (eqb n 1) refl (found t f)
     b = blockAt t p
 
     more : Answer (List (List ℕ))
-    more = chainFrom (p + n) (seenWith b seen) (drop (p + n) t)
+    more = chainFrom (p + n) (idOf b ∷ seen) (drop (p + n) t)
 
     go : (y : Bool) → eqb n 0 ≡ y → (z : Bool) → eqb n 1 ≡ z
         → ((q : ℕ) (later : List ℕ) (x : Refusal) → length t ≤ q + f → Reached t q later → chainFrom q later (drop q t) ≡ refused x → (k : ℕ) × (q : ℕ) × (x ≡ placed k q) × Damaged t k q)
@@ -96,7 +96,7 @@ found t (suc f) p seen x h r e = go (eqb n 0) refl (eqb n 1) refl (found t f)
           | inl d ↦ let g = damage-gives p seen b x d in
               (g .0, p, g .1, record { seen = seen; reached = r; begins = two; broken = refused-first (placed (g .0) p) (damageSteps p seen b) tt (d ∙ ap refused (g .1)) })
           | inr d ↦ elim (then-refused more (λ bs. got (b ∷ bs)) x (d .2)) [
-            | inl m ↦ ih (p + n) (seenWith b seen) x (omega arith) (block r two (worked (damageSteps p seen b) tt (d .0) (d .1) .0)) m
+            | inl m ↦ ih (p + n) (idOf b ∷ seen) x (omega arith) (block r two (worked (damageSteps p seen b) tt (d .0) (d .1) .0)) m
             | inr m ↦ never (cc (m .2))
           ]
         ]
@@ -107,7 +107,7 @@ reached-refuses t _ _ x start e = walked-from t ∙ e
 reached-refuses t _ _ x (filler {p} {seen} r o) e = reached-refuses t p seen x r (filler-at t p seen o ∙ e)
 reached-refuses t _ _ x (block {p} {seen} r two ok) e =
     let b : List ℕ = blockAt t p in
-    let more : Answer (List (List ℕ)) = chainFrom (p + getD t p 0) (seenWith b seen) (drop (p + getD t p 0) t) in
+    let more : Answer (List (List ℕ)) = chainFrom (p + getD t p 0) (idOf b ∷ seen) (drop (p + getD t p 0) t) in
     reached-refuses t p seen x r
     (block-at t p seen two ∙ then-ok (damageOf p seen b) (λ _. andThen more λ bs. got (b ∷ bs)) tt (works (damageSteps p seen b) tt ok) ∙ then-no more (λ bs. got (b ∷ bs)) x e)
 

@@ -13,7 +13,7 @@ use Rattle.format.specs.Pages.{pageSize, goodSize, lockMap, differs, loc
 use Rattle.format.specs.Crc.{crcBit, crcBits, crcByte, crcFrom, crc, covered}
 use Rattle.format.specs.Text.{rows, after, rowsFrom, text, letter, encode, Encoded}
 use Rattle.format.specs.Fields.{capital, unitByte, isilOf, isil, alternative, isOwner, goodItem, prefixIn, ownerSaid, goodOwner, itemField, packed, basicOwner, ownerField}
-use Rattle.format.specs.Chain.{named, summed, wellFormed, carriable, damageSteps, seenWith, walk, chain, blockOf, otherBlocks, payload, lastField, libraryIn, goodLibrary, libraryBytes, sealed, blockOne}
+use Rattle.format.specs.Chain.{named, summed, wellFormed, carriable, damageSteps, walk, chain, blockOf, otherBlocks, payload, lastField, libraryIn, goodLibrary, libraryBytes, sealed, blockOne}
 use Rattle.format.specs.Elements.{Content, numbers, setInfo, shape, form, value, placeIn, place, known, el, put, clash, valuesAt, sound}
 use Rattle.format.specs.Sheet.{heads, bodies, sheetOf, offsetsFit, risingFrom, rising, cut, entriesIn, rightSheet, find, carriedIn, contentOf, goodValues, entriesAt, carriedEntries, entries}
 use Rattle.format.specs.Layout.{library, front, basic, laidOut, image, layout, hasLayout}
@@ -111,7 +111,7 @@ record Facts : Type 0 where
   first-walked : walked damagedFirst ≡ refused (placed 15 34)
 
 facts : Facts
-unfolding item otherSheet used accents itemSheet withBlocks isilUs isilDk fieldDk wholeSheet wholeFront wholeTag item2 acquisition tag2 sheet2 need needAt inOrder afterwards andThen orElse passed all oneOf same le16 word padWith trim strip upTo past xorAll joined goodSize lockMap differs lockedDiffers count changed lockedChanged crcBit crcBits crcByte crcFrom crc covered rows after rowsFrom text capital unitByte isilOf isil alternative isOwner goodItem prefixIn ownerSaid goodOwner itemField packed basicOwner ownerField named summed wellFormed carriable damageSteps seenWith walk chain blockOf otherBlocks payload lastField libraryIn goodLibrary libraryBytes sealed blockOne numbers setInfo shape form value placeIn place known put clash valuesAt sound heads bodies sheetOf offsetsFit risingFrom rising cut entriesIn rightSheet find carriedIn contentOf goodValues entriesAt carriedEntries entries library front basic laidOut layout hasLayout goodFields agree ownerOn contentIn tagSteps layingSteps ownLayout readSteps writeSteps editSteps
+unfolding item otherSheet used accents itemSheet withBlocks isilUs isilDk fieldDk wholeSheet wholeFront wholeTag item2 acquisition tag2 sheet2 need needAt inOrder afterwards andThen orElse passed all oneOf same le16 word padWith trim strip upTo past xorAll joined goodSize lockMap differs lockedDiffers count changed lockedChanged crcBit crcBits crcByte crcFrom crc covered rows after rowsFrom text capital unitByte isilOf isil alternative isOwner goodItem prefixIn ownerSaid goodOwner itemField packed basicOwner ownerField named summed wellFormed carriable damageSteps walk chain blockOf otherBlocks payload lastField libraryIn goodLibrary libraryBytes sealed blockOne numbers setInfo shape form value placeIn place known put clash valuesAt sound heads bodies sheetOf offsetsFit risingFrom rising cut entriesIn rightSheet find carriedIn contentOf goodValues entriesAt carriedEntries entries library front basic laidOut layout hasLayout goodFields agree ownerOn contentIn tagSteps layingSteps ownLayout readSteps writeSteps editSteps
 facts = record {
   read-whole = refl;
   write-whole = refl;

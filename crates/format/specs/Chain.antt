@@ -53,15 +53,15 @@ single id = eqb id 1
 
 -- ---- the damage of a block
 
--- Block b, as far as the tag has it, begins at byte p; `seen`: the IDs that may stand once and came before. The damage, in the order in
--- which it is tested: 15 length 2, 16 past the tag's end, 17 ID 0 or a structured block under 4 bytes, 18 checksum, 19 a second block 1.
+-- Block b, as far as the tag has it, begins at byte p; `seen`: the IDs of the blocks before. The damage, in the order in which it is
+-- tested: 15 length 2, 16 past the tag's end, 17 ID 0 or a structured block under 4 bytes, 18 checksum, 19 a second block 1.
 unfoldable pub damageSteps : ℕ → List ℕ → List ℕ → List Step
 damageSteps p seen b =
     needAt p 15 (not (eqb (lengthOf b) 2)) ∷
     needAt p 16 (whole b) ∷
     needAt p 17 (named b) ∷
     needAt p 18 (summed b) ∷
-    needAt p 19 (not (oneOf seen (idOf b))) ∷
+    needAt p 19 (not (single (idOf b) && oneOf seen (idOf b))) ∷
     []
 
 -- which of them it has: the first
@@ -69,10 +69,6 @@ abbrev pub damageOf : ℕ → List ℕ → List ℕ → Step
 damageOf p seen b = inOrder (damageSteps p seen b) tt
 
 -- ---- the chain
-
--- what was seen, with block b
-unfoldable pub seenWith : List ℕ → List ℕ → List ℕ
-seenWith b seen = if single (idOf b) then idOf b ∷ seen else seen
 
 -- The blocks of a chain s that begins at byte p, up to the end or a byte 00, fillers of one byte left out; at the first damaged block its
 -- damage. Each turn takes a byte at least, so as many turns as bytes are enough.
@@ -84,7 +80,7 @@ walk (suc turns) p seen s =
     if eqb n 0 then got [] else
     if eqb n 1 then walk turns (p + 1) seen (drop 1 s) else
     andThen (damageOf p seen b) λ _.
-    andThen (walk turns (p + n) (seenWith b seen) (drop n s)) λ bs.
+    andThen (walk turns (p + n) (idOf b ∷ seen) (drop n s)) λ bs.
     got (b ∷ bs)
 
 unfoldable pub chain : ℕ → List ℕ → Answer (List (List ℕ))

@@ -14,9 +14,8 @@ use borrow.Author.Tests.{le-leb, lt-leb, ne-eqb}
 use Rattle.format.specs.Answers.{Answer, placed, got, refused}
 use Rattle.format.specs.Bytes.{if_then_else_, oneOf, xorAll}
 use Rattle.format.specs.Pieces.{from}
-use Rattle.format.specs.Chain.{lengthOf, idOf, structured, damageOf}
+use Rattle.format.specs.Chain.{lengthOf, idOf, structured, single, damageOf}
 use Rattle.format.specs.Damage.{blockAt}
-use Rattle.format.proofs.Tests.{and-left}
 use Rattle.format.proofs.Chains.{past-end, says-at, Stands}
 use Rattle.format.proofs.Damages.{number-none, number-some}
 use Rattle.format.specs.Numbers.{numberOf}
@@ -110,7 +109,7 @@ module _ (c : tie.After-loop Inv-loop μ-loop Inv-chain μ-chain) where
       → numberOf (damageOf (at named-block) (before named-block) block) ≡ r
   number-is r e =
       let says-here : c .before .before .before .before .before .before .before .byte-at .result ≡ lengthOf block = size named-block ∙ sym (says-at (tag named-block) (at named-block) [] (omega (arith, three named-block))) in
-      sym (e ∙ ap (damageBy _ _ _) (sym (turn named-block .chain .inv .1 .told _)) ∙ ap₂ (λ (n i : ℕ). damageBy n i (c .before .loop .x) (oneOf (before named-block) i)) says-here (id-is named-block)
+      sym (e ∙ ap (damageBy _ _ _) (sym (turn named-block .chain .inv .1 .told (named-block .id-of .result))) ∙ ap₂ (λ (n i : ℕ). damageBy n i (c .before .loop .x) (single i && oneOf (before named-block) i)) says-here (id-is named-block)
       ∙ damage-by block (c .before .loop .x) low whole-block sum (at named-block) (before named-block) (not-two (tag named-block) (at named-block) (three named-block)))
 
 -- ---- it has no damage
@@ -126,7 +125,7 @@ module _ (c : tie.Joined4 Inv-loop μ-loop Inv-chain μ-chain) where
         number-none (at judged) (before judged) (blockAt (tag judged) (at judged)) (number-is l _ (w .4 .ensures) ∙ w .5 .left)
     | inr w ↦
         let high : structured (blockAt (tag judged) (at judged)) ≡ false = lt-leb (idOf (blockAt (tag judged) (at judged))) 100 (omega (arith, w .0 .left, id-is judged)) in
-        unstructured _ high (at judged) (before judged) (turn judged .chain .inv .1 .told _ ∙ and-left _ _ (ne-eqb (idOf (blockAt (tag judged) (at judged))) 1 (λ e. omega (arith, w .0 .left, id-is judged)))) (not-two (tag judged) (at judged) (three judged)) (says judged (omega (arith, w .1 .left, ap length (is judged), size judged)))
+        unstructured _ high (at judged) (before judged) (not-two (tag judged) (at judged) (three judged)) (says judged (omega (arith, w .1 .left, ap length (is judged), size judged)))
   ]
 
   unharmed : c .if4 .number ≡ 0
