@@ -19,7 +19,7 @@ use Rattle.format.specs.Calls.{ownLayout}
 use Rattle.format.proofs.Tests.{never, and-iff, or-inv, not-t}
 use Rattle.format.proofs.Strings.{nil-of}
 use Rattle.rows.specs.Rows.{slotsAt, Row}
-use Rattle.chain.specs.Survey.{foundOn}
+use Rattle.chain.specs.Survey.{Found, foundOn}
 use Rattle.chain.proofs.Laws.{surveyed}
 use Rattle.chain.proofs.Piece.{OnePiece, in-one-piece, own-piece}
 use Rattle.look.specs.Row.{pieceBy}
@@ -39,42 +39,36 @@ record Pieced (t : List ℕ) (size : ℕ) (p : Part) : Type 0 where
   own : ownLayout t ≡ true → p .len ≡ size
 
 module _ (t : List ℕ) (w : walked t ≡ got (blocksIn t)) where
-  abbrev l : Part
-  l = foundOn t .library
-
-  abbrev z : ℕ
-  z = foundOn t .size
-
-  abbrev d : ℕ
-  d = foundOn t .end
+  abbrev f : Found
+  f = foundOn t
 
   -- no bytes, where there are no blocks or the tag is not the writer's own layout
-  no-piece : (ownLayout t ≡ true → 0 ≡ z) → Pieced t z nowhere
+  no-piece : (ownLayout t ≡ true → 0 ≡ f .size) → Pieced t (f .size) nowhere
   no-piece own = record {
     inside = omega arith;
     is = λ e. sym (nil-of (joined (otherBlocks (blocksIn t))) (omega (arith, e)));
     own = own;
   }
 
-  pieced : goodSize pageSize (length t) ≡ true → Pieced t z (pieceBy l z d)
+  pieced : goodSize pageSize (length t) ≡ true → Pieced t (f .size) (pieceBy (f .library) (f .size) (f .end))
   unfolding pieceBy
-  pieced g = go (not (eqb z 0) && (eqb (l .len) 0 || eqb (l .at) 34) && eqb (34 + l .len + z) d) refl
+  pieced g = go (not (eqb (f .size) 0) && (eqb (f .library .len) 0 || eqb (f .library .at) 34) && eqb (34 + f .library .len + f .size) (f .end)) refl
     where
       -- block 1 is the first block, or there is none
-      first : eqb (l .len) 0 || eqb (l .at) 34 ≡ true → (l .len ≡ 0 → ⊥) → l .at ≡ 34
-      first e h = elim (or-inv (eqb (l .len) 0) (eqb (l .at) 34) e) [ inl q ↦ absurd (h (eqb-true (l .len) 0 q)) | inr q ↦ eqb-true (l .at) 34 q ]
+      first : eqb (f .library .len) 0 || eqb (f .library .at) 34 ≡ true → (f .library .len ≡ 0 → ⊥) → f .library .at ≡ 34
+      first e h = elim (or-inv (eqb (f .library .len) 0) (eqb (f .library .at) 34) e) [ inl q ↦ absurd (h (eqb-true (f .library .len) 0 q)) | inr q ↦ eqb-true (f .library .at) 34 q ]
 
-      none-own : (x : Bool) → eqb z 0 ≡ x → (y : Bool) → eqb (l .len) 0 ≡ y → not x && (y || eqb (l .at) 34) && eqb (34 + l .len + z) d ≡ false → OnePiece (foundOn t) → 0 ≡ z
-      none-own true ex y ey e o = sym (eqb-true z 0 ex)
-      none-own false ex true ey e o = never (cc (eq-eqb (34 + l .len + z) d (o .full)))
-      none-own false ex false ey e o = never (cc (eq-eqb (34 + l .len + z) d (o .full), eq-eqb (l .at) 34 (o .first (eqb-false (l .len) 0 ey))))
+      none-own : (x : Bool) → eqb (f .size) 0 ≡ x → (y : Bool) → eqb (f .library .len) 0 ≡ y → not x && (y || eqb (f .library .at) 34) && eqb (34 + f .library .len + f .size) (f .end) ≡ false → OnePiece f → 0 ≡ f .size
+      none-own true ex y ey e o = sym (eqb-true (f .size) 0 ex)
+      none-own false ex true ey e o = never (cc (eq-eqb (34 + f .library .len + f .size) (f .end) (o .full)))
+      none-own false ex false ey e o = never (cc (eq-eqb (34 + f .library .len + f .size) (f .end) (o .full), eq-eqb (f .library .at) 34 (o .first (eqb-false (f .library .len) 0 ey))))
 
-      go : (x : Bool) → not (eqb z 0) && (eqb (l .len) 0 || eqb (l .at) 34) && eqb (34 + l .len + z) d ≡ x → Pieced t z (if x then from (34 + l .len) z else nowhere)
+      go : (x : Bool) → not (eqb (f .size) 0) && (eqb (f .library .len) 0 || eqb (f .library .at) 34) && eqb (34 + f .library .len + f .size) (f .end) ≡ x → Pieced t (f .size) (if x then from (34 + f .library .len) (f .size) else nowhere)
       go true e =
           let k = simp and-iff at e in
-          let p : OnePiece (foundOn t) = record { first = first (k .0 .1); full = eqb-true (34 + l .len + z) d (k .1) } in
-          record { inside = omega (arith, surveyed t w .room, eqb-false z 0 (not-t (eqb z 0) (k .0 .0))); is = λ e. in-one-piece t w p; own = λ o. refl }
-      go false e = no-piece (λ o. none-own (eqb z 0) refl (eqb (l .len) 0) refl e (own-piece t w pageSize g o))
+          let p : OnePiece f = record { first = first (k .0 .1); full = eqb-true (34 + f .library .len + f .size) (f .end) (k .1) } in
+          record { inside = omega (arith, surveyed t w .room, eqb-false (f .size) 0 (not-t (eqb (f .size) 0) (k .0 .0))); is = λ e. in-one-piece t w p; own = λ o. refl }
+      go false e = no-piece (λ o. none-own (eqb (f .size) 0) refl (eqb (f .library .len) 0) refl e (own-piece t w pageSize g o))
 
 -- ---- what a readable tag holds, as looking finds it; `made` is the buffer that was lent
 

@@ -22,7 +22,7 @@ use Rattle.format.specs.Numbers.{numberOf}
 use Rattle.chain.specs.Formed.{damageBy}
 use Rattle.chain.specs.Survey.{Found, surveyOf}
 use Rattle.chain.proofs.Formed.{unstructured, damage-by, length-two, cut-short}
-use Rattle.chain.proofs.Turns.{xor-more, xor-all, found, SoFar, start, ended, filler, damaged, there, library, other, moved}
+use Rattle.chain.proofs.Turns.{xor-more, xor-all, found, SoFar, start, second, ended, filler, damaged, there, library, other, moved}
 use Rattle.chain.proofs.survey_of.Statement.{statement}
 use Rattle.chain.proofs.survey_of.Tie as tie
 
@@ -109,7 +109,7 @@ module _ (c : tie.After-loop Inv-loop μ-loop Inv-chain μ-chain) where
       → numberOf (damageOf (at named-block) (before named-block) block) ≡ r
   number-is r e =
       let says-here : c .before .before .before .before .before .before .before .byte-at .result ≡ lengthOf block = size named-block ∙ sym (says-at (tag named-block) (at named-block) [] (omega (arith, three named-block))) in
-      sym (e ∙ ap (damageBy _ _ _) (sym (turn named-block .chain .inv .1 .told (named-block .id-of .result))) ∙ ap₂ (λ (n i : ℕ). damageBy n i (c .before .loop .x) (single i && oneOf (before named-block) i)) says-here (id-is named-block)
+      sym (e ∙ ap (damageBy _ _ _) (sym (second _ _ _ _ _ (turn named-block .chain .inv .1) (named-block .id-of .result))) ∙ ap₂ (λ (n i : ℕ). damageBy n i (c .before .loop .x) (single i && oneOf (before named-block) i)) says-here (id-is named-block)
       ∙ damage-by block (c .before .loop .x) low whole-block sum (at named-block) (before named-block) (not-two (tag named-block) (at named-block) (three named-block)))
 
 -- ---- it has no damage
