@@ -8,11 +8,11 @@ use lib.Bits.{bitXor, xor-self, xor-zero-r}
 use lib.Dec.{eqb, leb}
 use lib.ListN.{length, getD, drop}
 use borrow.Author.Tests.{eqb-true, eq-eqb, ne-eqb, leb-true, leb-false}
-use Rattle.format.specs.Bytes.{if_then_else_, xorAll}
+use Rattle.format.specs.Bytes.{if_then_else_, oneOf, xorAll}
 use Rattle.format.specs.Answers.{placed, got, refused, needAt, inOrder}
-use Rattle.format.specs.Chain.{lengthOf, idOf, whole, structured, named, summed, wellFormed, isLibrary, damageSteps, damageOf}
+use Rattle.format.specs.Chain.{lengthOf, idOf, whole, structured, named, summed, wellFormed, single, damageSteps, damageOf}
 use Rattle.format.specs.Numbers.{numberOf}
-use Rattle.format.proofs.Tests.{same-truth, and-i, and-no, and-left}
+use Rattle.format.proofs.Tests.{same-truth, and-i, and-left}
 use Rattle.format.proofs.Damages.{number-none}
 use Rattle.format.proofs.Xor.{xor-assoc}
 use Rattle.chain.specs.Formed.{damageBy, formedBy}
@@ -31,7 +31,7 @@ xor-behind (y ∷ r) =
 
 -- ---- a block that is as long as it says
 
-numbered : (p : ℕ) (seen : Bool) (b : List ℕ) → (lengthOf b ≡ 2 → ⊥) → lengthOf b ≡ length b → (n s o : Bool) → named b ≡ n → summed b ≡ s → isLibrary b && seen ≡ o
+numbered : (p : ℕ) (seen : List ℕ) (b : List ℕ) → (lengthOf b ≡ 2 → ⊥) → lengthOf b ≡ length b → (n s o : Bool) → named b ≡ n → summed b ≡ s → single (idOf b) && oneOf seen (idOf b) ≡ o
     → numberOf (damageOf p seen b) ≡ (if not n then 17 else if not s then 18 else if o then 19 else 0)
 unfolding damageSteps needAt inOrder
 numbered p seen b two says false s o en es eo = rw (ne-eqb (lengthOf b) 2 two, eq-eqb (lengthOf b) (length b) says, en)
@@ -52,37 +52,36 @@ module _ (b : List ℕ) (high : structured b ≡ false) where
   unfolding summed
   high-summed = rw high
 
-  high-other : isLibrary b ≡ false
-  high-other = ne-eqb (idOf b) 1 (λ e. let h : 100 < idOf b = leb-false (idOf b) 100 high in omega arith)
+  high-many : single (idOf b) ≡ false
+  high-many = ne-eqb (idOf b) 1 (λ e. let h : 100 < idOf b = leb-false (idOf b) 100 high in omega arith)
 
-  pub unstructured : (p : ℕ) (seen : Bool) → (lengthOf b ≡ 2 → ⊥) → lengthOf b ≡ length b → damageOf p seen b ≡ got tt
-  unstructured p seen two says =
-      number-none p seen b (numbered p seen b two says true true false high-named high-summed (and-left (isLibrary b) seen high-other))
+  pub unstructured : (p : ℕ) (seen : List ℕ) → (lengthOf b ≡ 2 → ⊥) → lengthOf b ≡ length b → damageOf p seen b ≡ got tt
+  unstructured p seen two says = number-none p seen b (numbered p seen b two says true true false high-named high-summed (and-left (single (idOf b)) _ high-many))
 
 -- an ID of 1 to 100 asks for both
 module _ (b : List ℕ) (x : ℕ) (low : structured b ≡ true) (says : lengthOf b ≡ length b) (sum : x ≡ xorAll (drop 1 b)) where
-  by-tests : (seen : Bool) → damageBy (lengthOf b) (idOf b) x seen ≡ (if not (named b) then 17 else if not (summed b) then 18 else if isLibrary b && seen then 19 else 0)
+  by-tests : (seen : Bool) → damageBy (lengthOf b) (idOf b) x seen ≡ (if not (named b) then 17 else if not (summed b) then 18 else if seen then 19 else 0)
   unfolding damageBy named summed
   by-tests seen = rw (low, sum, xor-behind b, ← says) (go (eqb (idOf b) 0) (leb 4 (lengthOf b)))
     where
       rest : ℕ
-      rest = if not (eqb (xorAll b) 0) then 18 else if isLibrary b && seen then 19 else 0
+      rest = if not (eqb (xorAll b) 0) then 18 else if seen then 19 else 0
 
       go : (z f : Bool) → (if z then 17 else if not f then 17 else rest) ≡ (if not (not z && f) then 17 else rest)
       go true f = refl
       go false true = refl
       go false false = refl
 
-  pub damage-by : (p : ℕ) (seen : Bool) → (lengthOf b ≡ 2 → ⊥) → damageBy (lengthOf b) (idOf b) x seen ≡ numberOf (damageOf p seen b)
-  damage-by p seen two = by-tests seen ∙ sym (numbered p seen b two says (named b) (summed b) (isLibrary b && seen) refl refl refl)
+  pub damage-by : (p : ℕ) (seen : List ℕ) → (lengthOf b ≡ 2 → ⊥) → damageBy (lengthOf b) (idOf b) x (single (idOf b) && oneOf seen (idOf b)) ≡ numberOf (damageOf p seen b)
+  damage-by p seen two = by-tests _ ∙ sym (numbered p seen b two says (named b) (summed b) _ refl refl refl)
 
-  well-by : (n s o : Bool) → o ≡ false → eqb (if not n then 17 else if not s then 18 else if o then 19 else 0) 0 ≡ n && s
-  well-by false s o e = refl
-  well-by true false o e = refl
-  well-by true true o e = rw e
+  well-by : (n s : Bool) → eqb (if not n then 17 else if not s then 18 else 0) 0 ≡ n && s
+  well-by false s = refl
+  well-by true false = refl
+  well-by true true = refl
 
   by-well : eqb (damageBy (lengthOf b) (idOf b) x false) 0 ≡ named b && summed b
-  by-well = ap (λ (k : ℕ). eqb k 0) (by-tests false) ∙ well-by (named b) (summed b) (isLibrary b && false) (and-no (isLibrary b) false refl)
+  by-well = ap (λ (k : ℕ). eqb k 0) (by-tests false) ∙ well-by (named b) (summed b)
 
 -- a block without damage is well formed
 pub formed-well : (b : List ℕ) (x : ℕ) → (idOf b ≤ 100 → x ≡ xorAll (drop 1 b)) → formedBy x b ≡ wellFormed b
@@ -100,10 +99,10 @@ formed-well b x h = all-there (leb 3 (length b)) (whole b) _ (named b) (summed b
 
 -- ---- what the number tells
 
-pub length-two : (p : ℕ) (seen : Bool) (b : List ℕ) → lengthOf b ≡ 2 → damageOf p seen b ≡ refused (placed 15 p)
+pub length-two : (p : ℕ) (seen : List ℕ) (b : List ℕ) → lengthOf b ≡ 2 → damageOf p seen b ≡ refused (placed 15 p)
 unfolding damageSteps needAt inOrder
 length-two p seen b e = rw (eq-eqb (lengthOf b) 2 e)
 
-pub cut-short : (p : ℕ) (seen : Bool) (b : List ℕ) → (lengthOf b ≡ 2 → ⊥) → (lengthOf b ≡ length b → ⊥) → damageOf p seen b ≡ refused (placed 16 p)
+pub cut-short : (p : ℕ) (seen : List ℕ) (b : List ℕ) → (lengthOf b ≡ 2 → ⊥) → (lengthOf b ≡ length b → ⊥) → damageOf p seen b ≡ refused (placed 16 p)
 unfolding damageSteps needAt inOrder
 cut-short p seen b two w = rw (ne-eqb (lengthOf b) 2 two, ne-eqb (lengthOf b) (length b) w)

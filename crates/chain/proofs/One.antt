@@ -30,16 +30,15 @@ pub formed-by-one : (block : List ℕ) (x : ℕ) (r r₂ : Bool) → r ≡ forme
 formed-by-one block x r r₂ a b = a ∙ sym b
 
 survey-same : (r q : Survey) → surveyGiven r ≡ surveyGiven q → r ≡ q
-survey-same (Whole l n c z d) (Whole m o f y g) e =
+survey-same (Whole l c z d) (Whole m f y g) e =
     let h = got-inj e in
-    let el : l ≡ m = ap (λ (x : Found). x .at) h in
-    let en : n ≡ o = ap (λ (x : Found). x .len) h in
+    let el : l ≡ m = ap (λ (x : Found). x .library) h in
     let ec : c ≡ f = ap (λ (x : Found). x .count) h in
     let ez : z ≡ y = ap (λ (x : Found). x .size) h in
     let ed : d ≡ g = ap (λ (x : Found). x .end) h in
-    rw (el, en, ec, ez, ed) refl
-survey-same (Whole l n c z d) (Damaged k p) e = never (cc)
-survey-same (Damaged k p) (Whole l n c z d) e = never (cc)
+    rw (el, ec, ez, ed) refl
+survey-same (Whole l c z d) (Damaged k p) e = never (cc)
+survey-same (Damaged k p) (Whole l c z d) e = never (cc)
 survey-same (Damaged k p) (Damaged j q) e = let h : k ≡ j = cc in let i : p ≡ q = cc in ap₂ Damaged h i
 
 pub survey-of-one : (tag : List ℕ) (r r₂ : Survey) → surveyGiven r ≡ surveyOf tag → surveyGiven r₂ ≡ surveyOf tag → r ≡ r₂

@@ -7,13 +7,14 @@ use lib.Dec.{leb, eqb}
 use Rattle.format.specs.Bytes.{if_then_else_}
 use Rattle.format.specs.Chain.{lengthOf, idOf, whole, structured}
 
--- the number of the damage of a structured block, 0 for none: it has n bytes, as it says, and the ID `id`; `seen`: a block 1 came before
+-- the number of the damage of a structured block, 0 for none: it has n bytes, as it says, and the ID `id`; `seen`: a
+-- block of this ID came before, and it may stand once
 unfoldable pub damageBy : ℕ → ℕ → ℕ → Bool → ℕ
 damageBy n id x seen =
     if eqb id 0 then 17 else
     if not (leb 4 n) then 17 else
     if not (eqb x n) then 18 else
-    if eqb id 1 && seen then 19 else
+    if seen then 19 else
     0
 
 -- b is well formed

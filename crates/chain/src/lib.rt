@@ -1,7 +1,10 @@
 // The walker, and the chain of blocks: document 01, "The chain of blocks".
+use format::Part;
 use format::Refusal;
 ghost use mathlib.Core.Path.{_≡_};
 ghost use Prim.Native.Nat.{_≤_};
+ghost use mathlib.Core.Bool.{_&&_};
+ghost use lib.Dec.{eqb};
 ghost use lib.ListN.{getD};
 ghost use Rattle.format.specs.Chain.{idOf};
 ghost use Rattle.chain.specs.Part.{thatPart};
@@ -67,12 +70,10 @@ pub fn block_at<'a>(tag: &'a [u8], at: usize) -> &'a [u8]
 
 // What the chain holds, or its first damage.
 pub enum Survey {
-    // `library` is where block 1 begins and `length` its length, both 0 where there is none; `count` is how many other
-    // blocks there are, and `size` how many bytes they have together; `end` is the place behind the chain, where the 00 stands
-    // or the tag ends.
+    // `library` is block 1, nowhere if there is none; `count` is how many other blocks there are, and `size` how many bytes they
+    // have together; `end` is the place behind the chain, where the 00 stands or the tag ends.
     Whole {
-        library: usize,
-        length: usize,
+        library: Part,
         count: usize,
         size: usize,
         end: usize,
@@ -94,7 +95,7 @@ pub fn id_of(block: &[u8]) -> usize
 // The number of the damage of a structured block, 0 for none: 17 to 19, tested in this order. It has n bytes, as it says; `x` is the XOR of
 // those behind the first, which is the first where the XOR of the whole block is 00. `seen`: a block 1 came before.
 fn damage_by(n: usize, id: usize, x: u8, seen: bool) -> u32
-    ensures { λ r. ⌜ r ≡ damageBy n id x seen ⌝ }
+    ensures { λ r. ⌜ r ≡ damageBy n id x (eqb id 1 && seen) ⌝ }
 {
     if id == 0 {
         return 17;
@@ -135,8 +136,7 @@ pub fn survey_of(tag: &[u8]) -> Survey
     ensures { λ r. ⌜ surveyGiven r ≡ surveyOf (now (tag .entry)) ⌝ }
 {
     let mut at: usize = 34;
-    let mut library: usize = 0;
-    let mut length: usize = 0;
+    let mut library = Part { at: 0, len: 0 };
     let mut count: usize = 0;
     let mut size: usize = 0;
     let mut number: u32 = 0;
@@ -166,7 +166,7 @@ pub fn survey_of(tag: &[u8]) -> Survey
                 x = x ^ block[k];
                 k += 1;
             }
-            number = damage_by(n, id, x, length != 0);
+            number = damage_by(n, id, x, library.len != 0);
             if number != 0 {
                 break 'chain;
             }
@@ -175,8 +175,7 @@ pub fn survey_of(tag: &[u8]) -> Survey
             break 'chain;
         }
         if id == 1 {
-            library = at;
-            length = n;
+            library = Part { at, len: n };
         } else {
             count += 1;
             size += n;
@@ -186,7 +185,6 @@ pub fn survey_of(tag: &[u8]) -> Survey
     if number == 0 {
         Survey::Whole {
             library,
-            length,
             count,
             size,
             end: at,

@@ -9,11 +9,11 @@ use lib.Dec.{eqb, leb}
 use lib.ListN.{length, getD, drop, set, replicate}
 use borrow.Author.Tests.{eqb-true}
 use Rattle.format.specs.Answers.{Refusal, plain, got, refused, Step, need, needAt, inOrder, andThen, orElse, Passed}
-use Rattle.format.specs.Bytes.{if_then_else_, isEmpty, all, same, le16, word, trim, strip, upTo, past, xorAll}
+use Rattle.format.specs.Bytes.{if_then_else_, isEmpty, all, oneOf, same, le16, word, trim, strip, upTo, past, xorAll}
 use Rattle.format.specs.Pages.{count, changed}
 use Rattle.format.specs.Text.{rows, after, rowsFrom, text}
 use Rattle.format.specs.Fields.{isilOf, isil, alternate, alternative, isOwner, marked, goodItem, prefixIn, goodOwner}
-use Rattle.format.specs.Chain.{named, summed, damageSteps, walk, chain, Library, libraryBlock, payload, fieldsIn, beyond, lastField, libraryIn, goodLibrary, sealed}
+use Rattle.format.specs.Chain.{named, summed, damageSteps, walk, chain, Library, blockOf, payload, fieldsIn, beyond, lastField, libraryIn, goodLibrary, sealed}
 use Rattle.format.specs.Elements.{numbers, required, setInfo, shape, form, known, value, el, put}
 use Rattle.format.specs.Sheet.{Entry, entriesIn, find, present, goodValues}
 use Rattle.format.specs.Layout.{image}
@@ -123,7 +123,7 @@ module _ (f g : List ℕ → Bool) (w : (s : List ℕ) → f s ≡ true → g s 
   unfolding goodFieldsBy
   fields-wider t =
       and-wider (and-wider (and-wider (kept (leb (getD t 2 0) (getD t 1 0))) (or-wider (w (itemIn t)) (kept (marked (itemIn t))))) (owner-wider (ownerIn t)))
-      (library-wider (libraryBlock (blocksIn t)))
+      (library-wider (blockOf 1 (blocksIn t)))
 
   form-wider : (n : ℕ) (s : List ℕ) → formBy f n s ≡ true → formBy g n s ≡ true
   unfolding formBy shapeBy
@@ -216,7 +216,7 @@ places rule =
 
 -- it was refused in each, and passes in each
 pub places-opened : (all not (places textBefore) ≡ true) × (all (λ b. b) (places text) ≡ true)
-unfolding all textBefore text rowsFrom rows after goodFieldsBy goodOwnerBy goodLibraryBy isOwnerBy alternativeBy goodValuesBy valueBy formBy shapeBy shape isilOf isil prefixIn upTo past strip trim same payload fieldsIn beyond libraryIn libraryBlock sealed le16 word xorAll chain walk damageSteps named summed needAt inOrder andThen orElse numbers setInfo find
+unfolding all oneOf textBefore text rowsFrom rows after goodFieldsBy goodOwnerBy goodLibraryBy isOwnerBy alternativeBy goodValuesBy valueBy formBy shapeBy shape isilOf isil prefixIn upTo past strip trim same payload fieldsIn beyond libraryIn blockOf sealed le16 word xorAll chain walk damageSteps named summed needAt inOrder andThen orElse numbers setInfo find
 places-opened = (refl, refl)
 
 -- a byte alone is text where it was

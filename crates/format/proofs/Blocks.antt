@@ -10,10 +10,10 @@ use lib.ListN.{length, drop, getD, replicate, length-append, List·getD-append}
 use lib.Seq.{take-at, drop-at}
 use borrow.Author.Tests.{eqb-true, eqb-false, eq-eqb, ne-eqb, leb-true, le-leb}
 use Rattle.format.specs.Answers.{got, andThen}
-use Rattle.format.specs.Bytes.{if_then_else_, isEmpty, all, le16, word, xorAll, trim, strip, joined}
+use Rattle.format.specs.Bytes.{if_then_else_, isEmpty, all, oneOf, le16, word, xorAll, trim, strip, joined}
 use Rattle.format.specs.Text.{text}
 use Rattle.format.specs.Fields.{isOwner}
-use Rattle.format.specs.Chain.{lengthOf, idOf, whole, named, summed, wellFormed, isLibrary, carriable, damageSteps, damageOf, walk, chain, libraryBlock, otherBlocks, payload, beyond, separated, sealed, blockWith, Library, lastField, libraryIn, goodLibrary, libraryFields, libraryBytes, blockOne}
+use Rattle.format.specs.Chain.{lengthOf, idOf, whole, named, summed, wellFormed, takenApart, carriable, single, damageSteps, damageOf, walk, chain, blockOf, otherBlocks, payload, beyond, separated, sealed, blockWith, Library, lastField, libraryIn, goodLibrary, libraryFields, libraryBytes, blockOne}
 use Rattle.format.proofs.Tests.{and-l, and-r, and-i, not-t}
 use Rattle.format.proofs.Answers.{need-at-ok, need-at-inv, then-ok, first-ok, first-inv, none-ok}
 use Rattle.format.proofs.Strings.{word-le16, trim-head, trim-drop, trim-trim, suc-other, solid}
@@ -74,14 +74,14 @@ well-facts b w =
       good-sum = and-r (x && whole b && named b) (summed b) w;
     }
 
-pub carried-facts : (b : List ℕ) → carriable b ≡ true → (wellFormed b ≡ true) × (isLibrary b ≡ false)
+pub carried-facts : (b : List ℕ) → carriable b ≡ true → (wellFormed b ≡ true) × (takenApart b ≡ false)
 unfolding carriable
-carried-facts b h = (and-l (wellFormed b) (not (isLibrary b)) h, not-t (isLibrary b) (and-r (wellFormed b) (not (isLibrary b)) h))
+carried-facts b h = (and-l (wellFormed b) (not (takenApart b)) h, not-t (takenApart b) (and-r (wellFormed b) (not (takenApart b)) h))
 
 -- ---- its damage
 
 -- a well-formed block that is no second block 1 has none
-pub no-damage : (p : ℕ) (seen : Bool) (b : List ℕ) → wellFormed b ≡ true → not (isLibrary b && seen) ≡ true → damageOf p seen b ≡ got tt
+pub no-damage : (p : ℕ) (seen : List ℕ) (b : List ℕ) → wellFormed b ≡ true → not (single (idOf b) && oneOf seen (idOf b)) ≡ true → damageOf p seen b ≡ got tt
 unfolding damageSteps
 no-damage p seen b w o =
     let k = well-facts b w in
@@ -90,7 +90,7 @@ no-damage p seen b w o =
     ∙ first-ok _ _ tt (need-at-ok p 17 _ (k .good-name)) ∙ first-ok _ _ tt (need-at-ok p 18 _ (k .good-sum)) ∙ first-ok _ _ tt (need-at-ok p 19 _ o) ∙ none-ok tt
 
 -- and one that has none, and is no filler, is well formed
-pub undamaged : (p : ℕ) (seen : Bool) (b : List ℕ) (u : Unit {0}) → 2 ≤ lengthOf b → damageOf p seen b ≡ got u → (wellFormed b ≡ true) × (not (isLibrary b && seen) ≡ true)
+pub undamaged : (p : ℕ) (seen : List ℕ) (b : List ℕ) (u : Unit {0}) → 2 ≤ lengthOf b → damageOf p seen b ≡ got u → (wellFormed b ≡ true) × (not (single (idOf b) && oneOf seen (idOf b)) ≡ true)
 unfolding damageSteps wellFormed
 undamaged p seen b u two e =
     let l = first-inv _ _ tt u e in
@@ -113,8 +113,8 @@ some-block n z o =
     omega arith
 
 -- a block at the front is taken, and the walk goes on behind it
-step : (f p : ℕ) (seen : Bool) (b r : List ℕ) → wellFormed b ≡ true → not (isLibrary b && seen) ≡ true
-    → walk (suc f) p seen (b ++ r) ≡ andThen (walk f (p + length b) (isLibrary b || seen) r) (λ bs. got (b ∷ bs))
+step : (f p : ℕ) (seen : List ℕ) (b r : List ℕ) → wellFormed b ≡ true → not (single (idOf b) && oneOf seen (idOf b)) ≡ true
+    → walk (suc f) p seen (b ++ r) ≡ andThen (walk f (p + length b) (idOf b ∷ seen) r) (λ bs. got (b ∷ bs))
 unfolding walk
 step f p seen b r w o =
     let k = well-facts b w in
@@ -122,14 +122,14 @@ step f p seen b r w o =
     rw (g, ne-eqb (length b) 0 (omega (arith, k .long)), ne-eqb (length b) 1 (omega (arith, k .long)), take-at b r (length b) refl, drop-at b r (length b) refl)
     (then-ok _ _ tt (no-damage p seen b w o))
 
-walk-zeros : (f p m : ℕ) (seen : Bool) → walk f p seen (replicate m 0) ≡ got []
+walk-zeros : (f p m : ℕ) (seen : List ℕ) → walk f p seen (replicate m 0) ≡ got []
 unfolding walk
 walk-zeros zero p m seen = refl
 walk-zeros (suc f) p zero seen = refl
 walk-zeros (suc f) p (suc m) seen = refl
 
 -- carried blocks, and 00 to the end
-walk-carried : (f p m : ℕ) (seen : Bool) (bs : List (List ℕ)) → all carriable bs ≡ true → length (joined bs ++ replicate m 0) ≤ f
+walk-carried : (f p m : ℕ) (seen : List ℕ) (bs : List (List ℕ)) → all carriable bs ≡ true → length (joined bs ++ replicate m 0) ≤ f
     → walk f p seen (joined bs ++ replicate m 0) ≡ got bs
 unfolding all joined
 walk-carried f p m seen [] h l = walk-zeros f p m seen
@@ -139,11 +139,10 @@ walk-carried zero p m seen (b ∷ bs) h l =
 walk-carried (suc f) p m seen (b ∷ bs) h l =
     let c = carried-facts b (and-l (carriable b) (all carriable bs) h) in
     let r : List ℕ = joined bs ++ replicate m 0 in
-    let o : not (isLibrary b && seen) ≡ true = rw (c .1) in
     let k : length r ≤ f = omega (arith, length-append b r, ap length (append-assoc b (joined bs) (replicate m 0)), well-facts b (c .0) .long) in
     rw (append-assoc b (joined bs) (replicate m 0))
-    (step f p seen b r (c .0) o
-    ∙ rw (c .1) (then-ok (walk f (p + length b) seen r) (λ cs. got (b ∷ cs)) bs (walk-carried f (p + length b) m seen bs (and-r (carriable b) (all carriable bs) h) k)))
+    (step f p seen b r (c .0) (rw (c .1) refl)
+    ∙ then-ok (walk f (p + length b) (idOf b ∷ seen) r) (λ cs. got (b ∷ cs)) bs (walk-carried f (p + length b) m (idOf b ∷ seen) bs (and-r (carriable b) (all carriable bs) h) k))
 
 -- ---- what a block holds
 
@@ -191,8 +190,8 @@ module _ (f : Library) (i : solid (f .item) ≡ true) (o : solid (f .owner) ≡ 
   unfolding goodLibrary
   library-good t w = rw (library-back, last-back) (and-i (and-i (byte-back (f .usage) .1) t) w)
 
-no-library : (cs : List (List ℕ)) → all carriable cs ≡ true → (libraryBlock cs ≡ []) × (otherBlocks cs ≡ cs)
-unfolding all libraryBlock otherBlocks
+no-library : (cs : List (List ℕ)) → all carriable cs ≡ true → (blockOf 1 cs ≡ []) × (otherBlocks cs ≡ cs)
+unfolding all blockOf otherBlocks
 no-library [] h = (refl, refl)
 no-library (b ∷ cs) h =
     let c = carried-facts b (and-l (carriable b) (all carriable cs) h) in
@@ -203,23 +202,23 @@ no-library (b ∷ cs) h =
 pub record Laid (p : ℕ) (one : List ℕ) (cs : List (List ℕ)) (m : ℕ) : Type 0 where
   pub bs : List (List ℕ)
   pub walks : chain p (one ++ (joined cs ++ replicate m 0)) ≡ got bs
-  pub library : libraryBlock bs ≡ one
+  pub library : blockOf 1 bs ≡ one
   pub others : otherBlocks bs ≡ cs
 
 pub chain-laid : (p : ℕ) (f : Library) (cs : List (List ℕ)) (m : ℕ) → all carriable cs ≡ true → Laid p (blockOne f) cs m
-unfolding blockWith chain libraryBlock otherBlocks sealed le16 word
+unfolding blockWith chain blockOf otherBlocks sealed le16 word oneOf
 chain-laid p f cs m h = go (libraryBytes f)
   where
     go : (q : List ℕ) → Laid p (if isEmpty q then [] else sealed 1 q) cs m
-    go [] = let r = no-library cs h in record { bs = cs; walks = walk-carried _ p m false cs h (le-refl _); library = r .0; others = r .1 }
+    go [] = let r = no-library cs h in record { bs = cs; walks = walk-carried _ p m [] cs h (le-refl _); library = r .0; others = r .1 }
     go (x ∷ q) =
         let b : List ℕ = sealed 1 (x ∷ q) in
         let r : List ℕ = joined cs ++ replicate m 0 in
         let n = no-library cs h in
         record {
           bs = b ∷ cs;
-          walks = step (length (drop 1 b ++ r)) p false b r (sealed-well 1 (x ∷ q) (omega arith) (omega arith)) refl
-              ∙ then-ok (walk (length (drop 1 b ++ r)) (p + length b) true r) (λ bs. got (b ∷ bs)) cs (walk-carried (length (drop 1 b ++ r)) (p + length b) m true cs h (omega (arith, length-append (drop 1 b) r)));
+          walks = step (length (drop 1 b ++ r)) p [] b r (sealed-well 1 (x ∷ q) (omega arith) (omega arith)) refl
+              ∙ then-ok (walk (length (drop 1 b ++ r)) (p + length b) (1 ∷ []) r) (λ bs. got (b ∷ bs)) cs (walk-carried (length (drop 1 b ++ r)) (p + length b) m (1 ∷ []) cs h (omega (arith, length-append (drop 1 b) r)));
           library = refl;
           others = n .1;
         }

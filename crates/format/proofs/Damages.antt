@@ -3,16 +3,17 @@ use mathlib.Core.Path.{_≡_, refl, sym, ap, _∙_}
 use mathlib.Core.Logic.{inl, inr}
 use Prim.Native.Nat.{ℕ, zero, suc, _+_, _≤_, _<_}
 use native.Mathlib.Omega.{arith}
-use mathlib.Core.Bool.{Bool, true, false, _||_}
+use mathlib.Core.Bool.{Bool, true, false}
 use mathlib.Core.List.{List, [], _∷_, _++_}
 use lib.Dec.{eqb}
 use lib.ListN.{length, drop, getD}
 use borrow.Author.Tests.{eqb-true}
 use Rattle.format.specs.Answers.{Answer, Refusal, plain, placed, got, refused, Step, need, needAt, inOrder, andThen, passed}
-use Rattle.format.specs.Chain.{isLibrary, damageSteps, damageOf}
+use Rattle.format.specs.Bytes.{oneOf}
+use Rattle.format.specs.Chain.{idOf, damageSteps, damageOf}
 use Rattle.format.specs.Reading.{walked, goodFields, agree, tagSteps}
 use Rattle.format.specs.Damage.{blockAt, Reached, start, filler, block, Damaged, Spoilt}
-use Rattle.format.specs.Numbers.{oneOf, damageNumbers, numberOf}
+use Rattle.format.specs.Numbers.{damageNumbers, numberOf}
 use Rattle.format.proofs.Tests.{never}
 use Rattle.format.proofs.Answers.{refused-inj, then-ok, then-no, then-refused, passed-ok, passed-no, first-ok, first-no, none-refuses, next-ok, refuses, refused-first, works, worked}
 use Rattle.format.proofs.Blocks.{some-block}
@@ -28,7 +29,7 @@ placed-step p n true ss a x e here behind = behind e
 placed-step p n false ss a x e here behind = here (cc)
 
 -- 15 to 19, and the place of the block
-damage-gives : (p : ℕ) (seen : Bool) (b : List ℕ) (x : Refusal) → damageOf p seen b ≡ refused x → (k : ℕ) × (x ≡ placed k p) × (oneOf damageNumbers k ≡ true)
+damage-gives : (p : ℕ) (seen : List ℕ) (b : List ℕ) (x : Refusal) → damageOf p seen b ≡ refused x → (k : ℕ) × (x ≡ placed k p) × (oneOf damageNumbers k ≡ true)
 unfolding damageSteps oneOf damageNumbers
 damage-gives p seen b x e =
     placed-step p 15 _ _ tt x e (λ h. (15, h, refl)) λ e.
@@ -43,7 +44,7 @@ unfolding oneOf damageNumbers
 no-zero = refl
 
 -- its number tells it: 0 says that there is none, another that there is that one
-module _ (p : ℕ) (seen : Bool) (b : List ℕ) where
+module _ (p : ℕ) (seen : List ℕ) (b : List ℕ) where
   pub number-none : numberOf (damageOf p seen b) ≡ 0 → damageOf p seen b ≡ got tt
   number-none z = go (damageOf p seen b) refl z
     where
@@ -70,7 +71,7 @@ module _ (p : ℕ) (seen : Bool) (b : List ℕ) where
 -- ---- of the chain
 
 -- what walking from a reached place refuses with is the damage of a block
-found : (t : List ℕ) (f p : ℕ) (seen : Bool) (x : Refusal) → length t ≤ p + f → Reached t p seen → chainFrom p seen (drop p t) ≡ refused x
+found : (t : List ℕ) (f p : ℕ) (seen : List ℕ) (x : Refusal) → length t ≤ p + f → Reached t p seen → chainFrom p seen (drop p t) ≡ refused x
     → (k : ℕ) × (q : ℕ) × (x ≡ placed k q) × Damaged t k q
 found t zero p seen x h r e = never (cc (ends-at t p seen (past-end t p (omega arith))))
 found t (suc f) p seen x h r e = go (eqb n 0) refl (eqb n 1) refl (found t f)
@@ -82,10 +83,10 @@ found t (suc f) p seen x h r e = go (eqb n 0) refl (eqb n 1) refl (found t f)
     b = blockAt t p
 
     more : Answer (List (List ℕ))
-    more = chainFrom (p + n) (isLibrary b || seen) (drop (p + n) t)
+    more = chainFrom (p + n) (idOf b ∷ seen) (drop (p + n) t)
 
     go : (y : Bool) → eqb n 0 ≡ y → (z : Bool) → eqb n 1 ≡ z
-        → ((q : ℕ) (later : Bool) (x : Refusal) → length t ≤ q + f → Reached t q later → chainFrom q later (drop q t) ≡ refused x → (k : ℕ) × (q : ℕ) × (x ≡ placed k q) × Damaged t k q)
+        → ((q : ℕ) (later : List ℕ) (x : Refusal) → length t ≤ q + f → Reached t q later → chainFrom q later (drop q t) ≡ refused x → (k : ℕ) × (q : ℕ) × (x ≡ placed k q) × Damaged t k q)
         → (k : ℕ) × (q : ℕ) × (x ≡ placed k q) × Damaged t k q
     go true ey z ez ih = never (cc (ends-at t p seen (eqb-true n 0 ey)))
     go false ey true ez ih = let o = eqb-true n 1 ez in ih (p + 1) seen x (omega arith) (filler r o) (sym (filler-at t p seen o) ∙ e)
@@ -95,18 +96,18 @@ found t (suc f) p seen x h r e = go (eqb n 0) refl (eqb n 1) refl (found t f)
           | inl d ↦ let g = damage-gives p seen b x d in
               (g .0, p, g .1, record { seen = seen; reached = r; begins = two; broken = refused-first (placed (g .0) p) (damageSteps p seen b) tt (d ∙ ap refused (g .1)) })
           | inr d ↦ elim (then-refused more (λ bs. got (b ∷ bs)) x (d .2)) [
-            | inl m ↦ ih (p + n) (isLibrary b || seen) x (omega arith) (block r two (worked (damageSteps p seen b) tt (d .0) (d .1) .0)) m
+            | inl m ↦ ih (p + n) (idOf b ∷ seen) x (omega arith) (block r two (worked (damageSteps p seen b) tt (d .0) (d .1) .0)) m
             | inr m ↦ never (cc (m .2))
           ]
         ]
 
 -- so does walking the whole chain
-reached-refuses : (t : List ℕ) (p : ℕ) (seen : Bool) (x : Refusal) → Reached t p seen → chainFrom p seen (drop p t) ≡ refused x → walked t ≡ refused x
+reached-refuses : (t : List ℕ) (p : ℕ) (seen : List ℕ) (x : Refusal) → Reached t p seen → chainFrom p seen (drop p t) ≡ refused x → walked t ≡ refused x
 reached-refuses t _ _ x start e = walked-from t ∙ e
 reached-refuses t _ _ x (filler {p} {seen} r o) e = reached-refuses t p seen x r (filler-at t p seen o ∙ e)
 reached-refuses t _ _ x (block {p} {seen} r two ok) e =
     let b : List ℕ = blockAt t p in
-    let more : Answer (List (List ℕ)) = chainFrom (p + getD t p 0) (isLibrary b || seen) (drop (p + getD t p 0) t) in
+    let more : Answer (List (List ℕ)) = chainFrom (p + getD t p 0) (idOf b ∷ seen) (drop (p + getD t p 0) t) in
     reached-refuses t p seen x r
     (block-at t p seen two ∙ then-ok (damageOf p seen b) (λ _. andThen more λ bs. got (b ∷ bs)) tt (works (damageSteps p seen b) tt ok) ∙ then-no more (λ bs. got (b ∷ bs)) x e)
 
@@ -118,7 +119,7 @@ damage-refused t k p d =
 
 -- and nowhere else
 pub refused-damage : (t : List ℕ) (x : Refusal) → walked t ≡ refused x → (k : ℕ) × (p : ℕ) × (x ≡ placed k p) × Damaged t k p
-refused-damage t x e = found t (length t) 34 false x (omega arith) start (sym (walked-from t) ∙ e)
+refused-damage t x e = found t (length t) 34 [] x (omega arith) start (sym (walked-from t) ∙ e)
 
 damaged-same : (t : List ℕ) (k p j q : ℕ) → placed k p ≡ placed j q → Damaged t j q → Damaged t k p
 damaged-same t k p j q e d =
@@ -138,7 +139,7 @@ damage-number t k p d =
     let n : k ≡ g .0 = cc in
     ap (oneOf damageNumbers) n ∙ g .2
 
-reached-late : (t : List ℕ) (p : ℕ) (seen : Bool) → Reached t p seen → 34 ≤ p
+reached-late : (t : List ℕ) (p : ℕ) (seen : List ℕ) → Reached t p seen → 34 ≤ p
 reached-late t _ _ start = omega arith
 reached-late t _ _ (filler {p} {seen} r o) = omega (arith, reached-late t p seen r)
 reached-late t _ _ (block {p} {seen} r two ok) = omega (arith, reached-late t p seen r)

@@ -15,7 +15,7 @@ use Rattle.format.specs.Pages.{goodSize}
 use Rattle.format.specs.Crc.{crc, covered}
 use Rattle.format.specs.Text.{text}
 use Rattle.format.specs.Fields.{marker, hyphen, long, alternate, ownerSaid, goodItem, goodOwner, itemField, packed, basicOwner, ownerField}
-use Rattle.format.specs.Chain.{chain, libraryBlock, otherBlocks, libraryIn, goodLibrary, blockOne}
+use Rattle.format.specs.Chain.{chain, blockOf, otherBlocks, libraryIn, goodLibrary, blockOne}
 use Rattle.format.specs.Elements.{Content, numbers, placeIn, place, known, el, shape, sound}
 use Rattle.format.specs.Layout.{ownerWidth, ownerOf, usageOf, library, firstByte, front, basic, ownBlocks, laidOut, layout, hasLayout, image, fits}
 use Rattle.format.specs.Reading.{walked, blocksIn, libraryOn, goodFields, agree, ownerOn, contentIn, Readable}
@@ -238,7 +238,7 @@ read-back p n c good s f =
     let ob = owner-back (ownerWidth n) (ownerOf (c .slots)) oe in
     let item : part 3 16 t ≡ it = ap (part 3 16) sh ∙ shape-item a pa od it le ow ta li ll in
     let own : part 21 13 t ≡ ow = ap (part 21 13) sh ∙ ap (take 13) (shape-own a pa od it le ow ta li ll) ∙ cut .0 in
-    let one : libraryBlock (blocksIn t) ≡ blockOne (library n (c .slots)) = ap libraryBlock bs ∙ ch .library in
+    let one : blockOf 1 (blocksIn t) ≡ blockOne (library n (c .slots)) = ap (blockOf 1) bs ∙ ch .library in
     let ps : Parts n c k t = record {
       main = ap (λ (x : List ℕ). getD x 0 0) sh;
       parts = ap (λ (x : List ℕ). getD x 1 0) sh;

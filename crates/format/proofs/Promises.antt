@@ -9,7 +9,7 @@ use mathlib.Core.List.{List, _++_}
 use lib.ListN.{length, take, drop}
 use borrow.Author.Tests.{le-leb}
 use Rattle.format.specs.Answers.{Answer, Refusal, plain, placed, got, refused, Step, inOrder, Passed}
-use Rattle.format.specs.Bytes.{all, between, bytes, part, strip, filled, joined}
+use Rattle.format.specs.Bytes.{all, oneOf, between, bytes, part, strip, filled, joined}
 use Rattle.format.specs.Pages.{pageSize, goodSize, lockMap, changed, openPages, Kept}
 use Rattle.format.specs.Text.{text, letter, encode, Encoded}
 use Rattle.format.specs.Fields.{alternate, marked}
@@ -20,7 +20,7 @@ use Rattle.format.specs.Reading.{walked, blocksIn, libraryOn, contentIn,
 use Rattle.format.specs.Damage.{Damaged}
 use Rattle.format.specs.Calls.{sheetIn, readSteps, reading, sheetContent, writeSteps, writing, ownLayout, editSteps, Edited, editing}
 use Rattle.format.specs.Before.{textBefore, readStepsBy, readingBy, writeStepsBy, writingBy, editStepsBy, editingBy}
-use Rattle.format.specs.Numbers.{oneOf, damageNumbers, Gives, gives, oneGives, readGives, writeGives, editGives, Each, numberOf, resultOf, Reads, Writes, Edits, ReadsC, WritesC, EditsC}
+use Rattle.format.specs.Numbers.{damageNumbers, Gives, gives, oneGives, readGives, writeGives, editGives, Each, numberOf, resultOf, Reads, Writes, Edits, ReadsC, WritesC, EditsC}
 use Rattle.format.specs.History.{Own, State, begin, run}
 use Rattle.format.specs.Demands.{Exact, ReadsExactly, WritesExactly, EditsExactly, ReadsDamage, EditsDamage, ReadsUnchanged, WritesUnchanged, EditsUnchanged, TextExactly, ReadsBack, LaysDown, CountsWritten, CountsEdited, PutsElement, EveryHistory, SameIsNothing}
 use Rattle.format.specs.declared.NumberAnswer.{NumberAnswer}

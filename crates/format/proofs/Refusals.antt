@@ -12,7 +12,8 @@ use Rattle.format.specs.Pages.{goodSize, lockMap}
 use Rattle.format.specs.Reading.{walked, tagSteps}
 use Rattle.format.specs.Damage.{Damaged, Spoilt}
 use Rattle.format.specs.Calls.{readSteps, layingSteps, writeSteps, editSteps}
-use Rattle.format.specs.Numbers.{oneOf, damageNumbers, Gives, alone, damage, gives, oneGives, readGives, writeGives, editGives, Each, none, next, numberOf, placeOf}
+use Rattle.format.specs.Bytes.{oneOf}
+use Rattle.format.specs.Numbers.{damageNumbers, Gives, alone, damage, gives, oneGives, readGives, writeGives, editGives, Each, none, next, numberOf, placeOf}
 use Rattle.format.proofs.Tests.{never, and-l, and-r, or-l, or-r, or-inv, not-t}
 use Rattle.format.proofs.Answers.{worked, need-refused, passed-refused}
 use Rattle.format.proofs.Damages.{no-zero, refused-damage, damage-number, place-past, on-spoilt}

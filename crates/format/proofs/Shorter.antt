@@ -11,7 +11,7 @@ use borrow.Author.Tests.{eqb-true, le-leb, lt-leb}
 use Rattle.format.specs.Bytes.{if_then_else_, isEmpty, bytes, same, part, padWith, strip, trim, upTo, past, joined}
 use Rattle.format.specs.Pages.{goodSize}
 use Rattle.format.specs.Fields.{isilOf, hyphen, blank, alternate, alternative, marked, prefixIn, ownerSaid, goodOwner, long, packed, basicOwner}
-use Rattle.format.specs.Chain.{isLibrary, libraryBlock, otherBlocks, Library, payload, fieldsIn, beyond, separated, blockWith, lastField, libraryIn, libraryFields, libraryBytes, blockOne}
+use Rattle.format.specs.Chain.{takenApart, blockOf, otherBlocks, Library, payload, fieldsIn, beyond, separated, blockWith, lastField, libraryIn, libraryFields, libraryBytes, blockOne}
 use Rattle.format.specs.Elements.{Content, numbers, placeIn, place}
 use Rattle.format.specs.Layout.{ownerWidth, ownerOf, library, basic, ownBlocks, laidOut, fits, hasLayout}
 use Rattle.format.specs.Reading.{mainUsage, itemIn, ownerIn, blocksIn, libraryOn, ownerOn, contentIn, Readable}
@@ -22,7 +22,7 @@ use Rattle.format.proofs.Fields.{isil-facts, isil-first, alternative-fa
 use Rattle.format.proofs.Blocks.{sealed-length}
 use Rattle.format.proofs.Chains.{walked-from, chain-total}
 use Rattle.format.proofs.Layouts.{basic-length, size-cases}
-use Rattle.format.proofs.Sound.{capitals-unhyphened, isil-made, prefix-length, fields-parts, agree-owner, library-tests, library-short, blocks-handed}
+use Rattle.format.proofs.Sound.{capitals-unhyphened, isil-made, prefix-length, fields-parts, agree-owner, library-tests, block-short, blocks-handed}
 
 -- ---- block 1 put together again from its fields
 
@@ -167,10 +167,10 @@ module _ (t : List ℕ) (r : Readable t) where
       (next (less-owner n l) (next (less-usage (mainUsage t) (f .usage)) none))
 
   -- block 1 is no longer than it was
-  pub block-shorter : (n : ℕ) → length (ownerIn t) ≤ ownerWidth n → length (blockOne (library n (contentIn t .slots))) ≤ length (libraryBlock (blocksIn t))
+  pub block-shorter : (n : ℕ) → length (ownerIn t) ≤ ownerWidth n → length (blockOne (library n (contentIn t .slots))) ≤ length (blockOf 1 (blocksIn t))
   unfolding again library contentIn place placeIn numbers
   block-shorter n l =
-      let b : List ℕ = libraryBlock (blocksIn t) in
+      let b : List ℕ = blockOf 1 (blocksIn t) in
       let lt = library-tests b (fields-parts t (r .fields) .library) in
       less-block 1 (libraryBytes (again n)) b (omega (arith, less-bytes (again n) f (less-media (f .media)) (again-fewer n l), ap length (library-rebuilt b (lt .0))))
 
@@ -179,26 +179,26 @@ module _ (t : List ℕ) (r : Readable t) where
 pub others-le : (bs : List (List ℕ)) → length (joined (otherBlocks bs)) ≤ length (joined bs)
 unfolding joined otherBlocks
 others-le [] = omega arith
-others-le (b ∷ bs) = go (isLibrary b) (others-le bs)
+others-le (b ∷ bs) = go (takenApart b) (others-le bs)
   where
     go : (x : Bool) → length (joined (otherBlocks bs)) ≤ length (joined bs) → length (joined (if x then otherBlocks bs else b ∷ otherBlocks bs)) ≤ length (b ++ joined bs)
     go true ih = omega (arith, length-append b (joined bs))
     go false ih = omega (arith, length-append b (joined bs), length-append b (joined (otherBlocks bs)))
 
 -- block 1 and the others are among the blocks
-pub split-total : (bs : List (List ℕ)) → length (libraryBlock bs) + length (joined (otherBlocks bs)) ≤ length (joined bs)
-unfolding joined libraryBlock otherBlocks
+pub split-total : (bs : List (List ℕ)) → length (blockOf 1 bs) + length (joined (otherBlocks bs)) ≤ length (joined bs)
+unfolding joined blockOf otherBlocks
 split-total [] = omega arith
-split-total (b ∷ bs) = go (isLibrary b) (split-total bs)
+split-total (b ∷ bs) = go (takenApart b) (split-total bs)
   where
-    go : (x : Bool) → length (libraryBlock bs) + length (joined (otherBlocks bs)) ≤ length (joined bs)
-        → length (if x then b else libraryBlock bs) + length (joined (if x then otherBlocks bs else b ∷ otherBlocks bs)) ≤ length (b ++ joined bs)
+    go : (x : Bool) → length (blockOf 1 bs) + length (joined (otherBlocks bs)) ≤ length (joined bs)
+        → length (if x then b else blockOf 1 bs) + length (joined (if x then otherBlocks bs else b ∷ otherBlocks bs)) ≤ length (b ++ joined bs)
     go true ih = omega (arith, length-append b (joined bs), others-le bs)
     go false ih = omega (arith, length-append b (joined bs), length-append b (joined (otherBlocks bs)))
 
 -- the blocks of a tag have no more bytes than follow its first 34
 pub blocks-total : (t : List ℕ) → Readable t → length (joined (blocksIn t)) ≤ length t - 34
-blocks-total t r = chain-total t 34 false (blocksIn t) (sym (walked-from t) ∙ r .blocks)
+blocks-total t r = chain-total t 34 [] (blocksIn t) (sym (walked-from t) ∙ r .blocks)
 
 -- ---- the layout of what was read
 
@@ -226,5 +226,5 @@ module _ (p : ℕ) (t : List ℕ) (y : bytes t ≡ true) (g : goodSize p (length
   pub read-fits : fits (length t) (contentIn t) ≡ true
   unfolding hasLayout
   read-fits =
-      and-i (le-leb (length (blockOne (library (length t) (contentIn t .slots)))) 255 (omega (arith, block-shorter t r (length t) own-in-width, library-short (blocksIn t) (blocks-handed t y r))))
+      and-i (le-leb (length (blockOne (library (length t) (contentIn t .slots)))) 255 (omega (arith, block-shorter t r (length t) own-in-width, block-short 1 (blocksIn t) (blocks-handed t y r))))
       (le-leb (length (laidOut (length t) (contentIn t .slots) (joined (contentIn t .carried)))) (length t) (omega (arith, laid-shorter, blocks-total t r, wide .1)))

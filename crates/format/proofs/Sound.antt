@@ -12,7 +12,7 @@ use Rattle.format.specs.Answers.{got}
 use Rattle.format.specs.Bytes.{if_then_else_, isEmpty, all, bytes, same, part, strip, past}
 use Rattle.format.specs.Text.{text}
 use Rattle.format.specs.Fields.{capital, isilOf, isil, hyphen, blank, alternate, alternative, isOwner, marker, marked, goodItem, prefixIn, ownerSaid, goodOwner, long}
-use Rattle.format.specs.Chain.{wellFormed, isLibrary, carriable, libraryBlock, otherBlocks, payload, fieldsIn, lastField, libraryIn, goodLibrary}
+use Rattle.format.specs.Chain.{idOf, wellFormed, takenApart, carriable, blockOf, otherBlocks, payload, fieldsIn, lastField, libraryIn, goodLibrary}
 use Rattle.format.specs.Elements.{numbers, placeIn, place, shape, form, value, clash, valuesAt, sound}
 use Rattle.format.specs.Damage.{blockAt}
 use Rattle.format.specs.Reading.{itemIn, ownerIn, blocksIn, libraryOn, goodFields, agree, ownerOn, contentIn, Readable}
@@ -81,28 +81,28 @@ owner-said t e = elim (said-cases t e) [
 abbrev pub handed : List ℕ → Bool
 handed b = wellFormed b && leb (length b) 255
 
-chain-handed : (t : List ℕ) (at : ℕ) (seen : Bool) (bs : List (List ℕ)) → bytes t ≡ true → chainFrom at seen (drop at t) ≡ got bs → all handed bs ≡ true
+chain-handed : (t : List ℕ) (at : ℕ) (seen : List ℕ) (bs : List (List ℕ)) → bytes t ≡ true → chainFrom at seen (drop at t) ≡ got bs → all handed bs ≡ true
 unfolding all
-chain-handed t at seen bs y w = by-places t (λ (k : ℕ) (s : Bool) (cs : List (List ℕ)). all handed cs ≡ true) (λ k s e. refl) (λ k s cs e h. h) one (length t) at seen bs (omega arith) w
+chain-handed t at seen bs y w = by-places t (λ (k : ℕ) (s : List ℕ) (cs : List (List ℕ)). all handed cs ≡ true) (λ k s e. refl) (λ k s cs e h. h) one (length t) at seen bs (omega arith) w
   where
-    one : (k : ℕ) (s : Bool) (cs : List (List ℕ)) (a : Ahead t k s cs) → all handed (a .rest) ≡ true → all handed cs ≡ true
+    one : (k : ℕ) (s : List ℕ) (cs : List (List ℕ)) (a : Ahead t k s cs) → all handed (a .rest) ≡ true → all handed cs ≡ true
     one k s cs a h = rw (a .first) (and-i (and-i (a .well) (le-leb (length (blockAt t k)) 255 (omega (arith, a .there .size, bytes-at k t y)))) h)
 
-pub library-short : (bs : List (List ℕ)) → all handed bs ≡ true → length (libraryBlock bs) ≤ 255
-unfolding all libraryBlock
-library-short [] e = omega arith
-library-short (b ∷ bs) e = go (isLibrary b) (library-short bs (and-r (handed b) (all handed bs) e))
+pub block-short : (id : ℕ) (bs : List (List ℕ)) → all handed bs ≡ true → length (blockOf id bs) ≤ 255
+unfolding all blockOf
+block-short id [] e = omega arith
+block-short id (b ∷ bs) e = go (eqb (idOf b) id) (block-short id bs (and-r (handed b) (all handed bs) e))
   where
-    go : (t : Bool) → length (libraryBlock bs) ≤ 255 → length (if t then b else libraryBlock bs) ≤ 255
+    go : (t : Bool) → length (blockOf id bs) ≤ 255 → length (if t then b else blockOf id bs) ≤ 255
     go true ih = leb-true (length b) 255 (and-r (wellFormed b) (leb (length b) 255) (and-l (handed b) (all handed bs) e))
     go false ih = ih
 
 others-formed : (bs : List (List ℕ)) → all handed bs ≡ true → all (form 255) (otherBlocks bs) ≡ true
 unfolding all otherBlocks carriable form shape
 others-formed [] e = refl
-others-formed (b ∷ bs) e = go (isLibrary b) refl (others-formed bs (and-r (handed b) (all handed bs) e))
+others-formed (b ∷ bs) e = go (takenApart b) refl (others-formed bs (and-r (handed b) (all handed bs) e))
   where
-    go : (t : Bool) → isLibrary b ≡ t → all (form 255) (otherBlocks bs) ≡ true → all (form 255) (if t then otherBlocks bs else b ∷ otherBlocks bs) ≡ true
+    go : (t : Bool) → takenApart b ≡ t → all (form 255) (otherBlocks bs) ≡ true → all (form 255) (if t then otherBlocks bs else b ∷ otherBlocks bs) ≡ true
     go true q ih = ih
     go false q ih =
         let w = and-l (handed b) (all handed bs) e in
@@ -190,7 +190,7 @@ pub record Fields (t : List ℕ) : Type 0 where
   pub ordinal : getD t 2 0 ≤ getD t 1 0
   pub item : goodItem (itemIn t) ≡ true
   pub owner : goodOwner (ownerIn t) ≡ true
-  pub library : goodLibrary (libraryBlock (blocksIn t)) ≡ true
+  pub library : goodLibrary (blockOf 1 (blocksIn t)) ≡ true
 
 pub fields-parts : (t : List ℕ) → goodFields t ≡ true → Fields t
 unfolding goodFields
@@ -210,14 +210,14 @@ agree-owner t e =
 
 module _ (t : List ℕ) (y : bytes t ≡ true) (r : Readable t) where
   pub blocks-handed : all handed (blocksIn t) ≡ true
-  blocks-handed = chain-handed t 34 false (blocksIn t) y (sym (walked-from t) ∙ r .blocks)
+  blocks-handed = chain-handed t 34 [] (blocksIn t) y (sym (walked-from t) ∙ r .blocks)
 
   -- the owner of a readable tag, or none
   pub owner-on : (ownerOn t ≡ []) ⊎ (isOwner (ownerOn t) ≡ true)
   unfolding ownerOn
   owner-on =
       let f = fields-parts t (r .fields) in
-      owner-agreed (ownerSaid (ownerIn t)) (libraryOn t .owner) (owner-said (ownerIn t) (f .owner)) (library-tests (libraryBlock (blocksIn t)) (f .library) .2) (agree-owner t (r .agreed))
+      owner-agreed (ownerSaid (ownerIn t)) (libraryOn t .owner) (owner-said (ownerIn t) (f .owner)) (library-tests (blockOf 1 (blocksIn t)) (f .library) .2) (agree-owner t (r .agreed))
 
   owner-on-short : length (ownerOn t) ≤ 255
   unfolding ownerOn
@@ -225,16 +225,16 @@ module _ (t : List ℕ) (y : bytes t ≡ true) (r : Readable t) where
     where
       go : (x : Bool) → length (if x then ownerSaid (ownerIn t) else libraryOn t .owner) ≤ 255
       go true = omega (arith, said-length (ownerIn t) (omega (arith, strip-length (part 21 13 t), part-length 21 13 t)))
-      go false = omega (arith, library-lengths (libraryBlock (blocksIn t)), library-short (blocksIn t) blocks-handed)
+      go false = omega (arith, library-lengths (blockOf 1 (blocksIn t)), block-short 1 (blocksIn t) blocks-handed)
 
   -- what is read is sound
   pub read-sound : sound (contentIn t) ≡ true
   unfolding contentIn valuesAt numbers clash place placeIn
   read-sound =
       let f = fields-parts t (r .fields) in
-      let l = library-tests (libraryBlock (blocksIn t)) (f .library) in
-      let n = library-lengths (libraryBlock (blocksIn t)) in
-      let s = library-short (blocksIn t) blocks-handed in
+      let l = library-tests (blockOf 1 (blocksIn t)) (f .library) in
+      let n = library-lengths (blockOf 1 (blocksIn t)) in
+      let s = block-short 1 (blocksIn t) blocks-handed in
       let iv = item-values (itemIn t) (libraryOn t .item) (f .item) (omega (arith, strip-length (part 3 16 t), part-length 3 16 t)) (l .1) (omega arith) in
       let ov = owner-values (ownerOn t) owner-on owner-on-short in
       parts-sound (contentIn t) (record {

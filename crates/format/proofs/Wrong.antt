@@ -8,19 +8,19 @@ use mathlib.Core.List.{List, [], _∷_, _++_}
 use lib.ListN.{length, take, getD, replicate}
 use lib.Dec.{eqb}
 use Rattle.format.specs.Answers.{Answer, Refusal, placed, got, refused, Step, need, needAt, inOrder, Passed, afterwards, andThen, orElse, passed}
-use Rattle.format.specs.Bytes.{isEmpty, all, same, between, le16, word, part, padWith, trim, strip, upTo, past, xorAll, joined}
+use Rattle.format.specs.Bytes.{isEmpty, all, oneOf, same, between, le16, word, part, padWith, trim, strip, upTo, past, xorAll, joined}
 use Rattle.format.specs.Pages.{pageSize, goodSize, lockMap, differs, lockedDiffers, count, changed, lockedChanged}
 use Rattle.format.specs.Crc.{crcBit, crcBits, crcByte, crcFrom, crc, covered}
 use Rattle.format.specs.Text.{rows, after, rowsFrom, text, letter, encode, Encoded}
 use Rattle.format.specs.Fields.{capital, unitByte, isilOf, isil, alternative, isOwner, goodItem, prefixIn, ownerSaid, goodOwner, itemField, packed, basicOwner, ownerField}
-use Rattle.format.specs.Chain.{named, summed, wellFormed, carriable, damageSteps, walk, chain, libraryBlock, otherBlocks, payload, fieldsIn, beyond, separated, sealed, blockWith, libraryIn, goodLibrary, libraryBytes}
+use Rattle.format.specs.Chain.{named, summed, wellFormed, carriable, damageSteps, walk, chain, blockOf, otherBlocks, payload, fieldsIn, beyond, separated, sealed, blockWith, libraryIn, goodLibrary, libraryBytes}
 use Rattle.format.specs.Elements.{Content, numbers, setInfo, shape, form, value, placeIn, place, known, el, put, clash, valuesAt, sound}
 use Rattle.format.specs.Sheet.{heads, bodies, sheetOf, offsetsFit, risingFrom, rising, cut, entriesIn, rightSheet, find, carriedIn, contentOf, goodValues, entriesAt, carriedEntries, entries}
 use Rattle.format.specs.Layout.{library, front, basic, laidOut, image, layout, hasLayout}
 use Rattle.format.specs.Reading.{walked, goodFields, agree, ownerOn, contentIn, tagSteps}
 use Rattle.format.specs.Damage.{Spoilt}
 use Rattle.format.specs.Calls.{readSteps, layingSteps, sheetContent, writeSteps, ownLayout, editSteps, Edited, Reader, Writer, Editor}
-use Rattle.format.specs.Numbers.{oneOf, damageNumbers}
+use Rattle.format.specs.Numbers.{damageNumbers}
 use Rattle.format.specs.History.{Own, Edit, noted, edited, run, Undone}
 use Rattle.format.specs.Demands.{ReadsExactly, WritesExactly, EditsExactly, ReadsDamage, EditsDamage, TextExactly, ReadsBack, LaysDown, CountsWritten, EveryHistory, SameIsNothing}
 use Rattle.format.proofs.Tests.{never, and-l}
@@ -111,7 +111,7 @@ record Facts : Type 0 where
   first-walked : walked damagedFirst ≡ refused (placed 15 34)
 
 facts : Facts
-unfolding item otherSheet used accents itemSheet withBlocks isilUs isilDk fieldDk wholeSheet wholeFront wholeTag item2 acquisition tag2 sheet2 need needAt inOrder afterwards andThen orElse passed all same le16 word padWith trim strip upTo past xorAll joined goodSize lockMap differs lockedDiffers count changed lockedChanged crcBit crcBits crcByte crcFrom crc covered rows after rowsFrom text capital unitByte isilOf isil alternative isOwner goodItem prefixIn ownerSaid goodOwner itemField packed basicOwner ownerField named summed wellFormed carriable damageSteps walk chain libraryBlock otherBlocks payload fieldsIn beyond separated sealed blockWith libraryIn goodLibrary libraryBytes numbers setInfo shape form value placeIn place known put clash valuesAt sound heads bodies sheetOf offsetsFit risingFrom rising cut entriesIn rightSheet find carriedIn contentOf goodValues entriesAt carriedEntries entries library front basic laidOut layout hasLayout goodFields agree ownerOn contentIn tagSteps layingSteps ownLayout readSteps writeSteps editSteps
+unfolding item otherSheet used accents itemSheet withBlocks isilUs isilDk fieldDk wholeSheet wholeFront wholeTag item2 acquisition tag2 sheet2 need needAt inOrder afterwards andThen orElse passed all oneOf same le16 word padWith trim strip upTo past xorAll joined goodSize lockMap differs lockedDiffers count changed lockedChanged crcBit crcBits crcByte crcFrom crc covered rows after rowsFrom text capital unitByte isilOf isil alternative isOwner goodItem prefixIn ownerSaid goodOwner itemField packed basicOwner ownerField named summed wellFormed carriable damageSteps walk chain blockOf otherBlocks payload fieldsIn beyond separated sealed blockWith libraryIn goodLibrary libraryBytes numbers setInfo shape form value placeIn place known put clash valuesAt sound heads bodies sheetOf offsetsFit risingFrom rising cut entriesIn rightSheet find carriedIn contentOf goodValues entriesAt carriedEntries entries library front basic laidOut layout hasLayout goodFields agree ownerOn contentIn tagSteps layingSteps ownLayout readSteps writeSteps editSteps
 facts = record {
   read-whole = refl;
   write-whole = refl;

@@ -10,7 +10,7 @@ use Rattle.format.specs.Answers.{Answer, Step, need, inOrder, afterwards
 use Rattle.format.specs.Bytes.{if_then_else_, isEmpty, all, between, filled}
 use Rattle.format.specs.Pages.{changed}
 use Rattle.format.specs.Fields.{isilOf, isil, alternate, marked, prefixIn}
-use Rattle.format.specs.Chain.{Library, libraryBlock, lastField, libraryIn}
+use Rattle.format.specs.Chain.{Library, blockOf, lastField, libraryIn}
 use Rattle.format.specs.Elements.{numbers, required, shape, known, el, put}
 use Rattle.format.specs.Sheet.{Entry, entriesIn, present}
 use Rattle.format.specs.Layout.{image}
@@ -43,7 +43,7 @@ module _ (rule : List ℕ → Bool) where
 
   unfoldable pub goodFieldsBy : List ℕ → Bool
   goodFieldsBy t =
-      leb (getD t 2 0) (getD t 1 0) && (rule (itemIn t) || marked (itemIn t)) && goodOwnerBy (ownerIn t) && goodLibraryBy (libraryBlock (blocksIn t))
+      leb (getD t 2 0) (getD t 1 0) && (rule (itemIn t) || marked (itemIn t)) && goodOwnerBy (ownerIn t) && goodLibraryBy (blockOf 1 (blocksIn t))
 
   -- ---- the elements of a sheet: of their forms, those of 1, 22 and 23 look at text
 

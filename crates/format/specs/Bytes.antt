@@ -1,7 +1,7 @@
 -- The few operations on strings of bytes that the rules are written with; no rule of document 01 stands here. Bytes are numbers, a
 -- string of bytes is a list.
 use Prim.Native.Nat.{ℕ, zero, suc, _+_, _-_, _*_, _/_, _%_}
-use mathlib.Core.Bool.{Bool, true, false, _&&_}
+use mathlib.Core.Bool.{Bool, true, false, _&&_, _||_}
 use mathlib.Core.List.{List, [], _∷_, _++_}
 use lib.ListN.{length, take, drop, replicate}
 use lib.Dec.{leb, eqb}
@@ -27,6 +27,11 @@ same [] [] = true
 same [] (y ∷ ys) = false
 same (x ∷ xs) [] = false
 same (x ∷ xs) (y ∷ ys) = eqb x y && same xs ys
+
+-- one of the numbers of a list
+unfoldable pub oneOf : List ℕ → ℕ → Bool
+oneOf [] k = false
+oneOf (n ∷ ns) k = eqb k n || oneOf ns k
 
 abbrev pub between : ℕ → ℕ → ℕ → Bool
 between a b n = leb a n && leb n b

@@ -1,11 +1,11 @@
 -- The chain of blocks and block 1's fields: document 01, "The chain of blocks".
 use Prim.Native.Nat.{ℕ, zero, suc, _+_}
-use mathlib.Core.Bool.{Bool, true, false, not, _&&_, _||_}
+use mathlib.Core.Bool.{Bool, true, not, _&&_, _||_}
 use mathlib.Core.List.{List, [], _∷_, _++_}
 use lib.ListN.{length, getD, take, drop}
 use lib.Dec.{leb, eqb}
 use Rattle.format.specs.Answers.{Answer, got, Step, needAt, inOrder, andThen}
-use Rattle.format.specs.Bytes.{if_then_else_, isEmpty, le16, word, xorAll, trim, strip, upTo, past}
+use Rattle.format.specs.Bytes.{if_then_else_, isEmpty, oneOf, le16, word, xorAll, trim, strip, upTo, past}
 use Rattle.format.specs.Text.{text}
 use Rattle.format.specs.Fields.{isOwner}
 
@@ -39,36 +39,40 @@ summed b = if structured b then eqb (xorAll b) 0 else true
 unfoldable pub wellFormed : List ℕ → Bool
 wellFormed b = leb 3 (length b) && whole b && named b && summed b
 
--- block 1 is the library extension
-abbrev pub isLibrary : List ℕ → Bool
-isLibrary b = eqb (idOf b) 1
+-- block 1, the library extension, is taken apart into elements; the others are carried
+abbrev pub takenApart : List ℕ → Bool
+takenApart b = eqb (idOf b) 1
 
 -- what element 255 carries: whole and well formed, no filler, ID not 1
 unfoldable pub carriable : List ℕ → Bool
-carriable b = wellFormed b && not (isLibrary b)
+carriable b = wellFormed b && not (takenApart b)
+
+-- of these IDs a chain has one block at most
+abbrev pub single : ℕ → Bool
+single id = eqb id 1
 
 -- ---- the damage of a block
 
--- Block b, as far as the tag has it, begins at byte p; `seen`: a block 1 came before. The damage, in the order in which it is tested:
--- 15 length 2, 16 past the tag's end, 17 ID 0 or a structured block under 4 bytes, 18 checksum, 19 a second block 1.
-unfoldable pub damageSteps : ℕ → Bool → List ℕ → List Step
+-- Block b, as far as the tag has it, begins at byte p; `seen`: the IDs of the blocks before. The damage, in the order in which it is
+-- tested: 15 length 2, 16 past the tag's end, 17 ID 0 or a structured block under 4 bytes, 18 checksum, 19 a second block 1.
+unfoldable pub damageSteps : ℕ → List ℕ → List ℕ → List Step
 damageSteps p seen b =
     needAt p 15 (not (eqb (lengthOf b) 2)) ∷
     needAt p 16 (whole b) ∷
     needAt p 17 (named b) ∷
     needAt p 18 (summed b) ∷
-    needAt p 19 (not (isLibrary b && seen)) ∷
+    needAt p 19 (not (single (idOf b) && oneOf seen (idOf b))) ∷
     []
 
 -- which of them it has: the first
-abbrev pub damageOf : ℕ → Bool → List ℕ → Step
+abbrev pub damageOf : ℕ → List ℕ → List ℕ → Step
 damageOf p seen b = inOrder (damageSteps p seen b) tt
 
 -- ---- the chain
 
 -- The blocks of a chain s that begins at byte p, up to the end or a byte 00, fillers of one byte left out; at the first damaged block its
 -- damage. Each turn takes a byte at least, so as many turns as bytes are enough.
-unfoldable pub walk : ℕ → ℕ → Bool → List ℕ → Answer (List (List ℕ))
+unfoldable pub walk : ℕ → ℕ → List ℕ → List ℕ → Answer (List (List ℕ))
 walk zero p seen s = got []
 walk (suc turns) p seen s =
     let n : ℕ = getD s 0 0 in
@@ -76,20 +80,21 @@ walk (suc turns) p seen s =
     if eqb n 0 then got [] else
     if eqb n 1 then walk turns (p + 1) seen (drop 1 s) else
     andThen (damageOf p seen b) λ _.
-    andThen (walk turns (p + n) (isLibrary b || seen) (drop n s)) λ bs.
+    andThen (walk turns (p + n) (idOf b ∷ seen) (drop n s)) λ bs.
     got (b ∷ bs)
 
 unfoldable pub chain : ℕ → List ℕ → Answer (List (List ℕ))
-chain p s = walk (length s) p false s
+chain p s = walk (length s) p [] s
 
--- block 1 among the blocks, nothing if there is none; and the others
-unfoldable pub libraryBlock : List (List ℕ) → List ℕ
-libraryBlock [] = []
-libraryBlock (b ∷ bs) = if isLibrary b then b else libraryBlock bs
+-- the block with an ID among the blocks, nothing if there is none
+unfoldable pub blockOf : ℕ → List (List ℕ) → List ℕ
+blockOf id [] = []
+blockOf id (b ∷ bs) = if eqb (idOf b) id then b else blockOf id bs
 
+-- the blocks that are carried
 unfoldable pub otherBlocks : List (List ℕ) → List (List ℕ)
 otherBlocks [] = []
-otherBlocks (b ∷ bs) = if isLibrary b then otherBlocks bs else b ∷ otherBlocks bs
+otherBlocks (b ∷ bs) = if takenApart b then otherBlocks bs else b ∷ otherBlocks bs
 
 -- ---- the content of a structured block: fields with a 00 between them
 

@@ -6,6 +6,7 @@ use mathlib.Core.Bool.{Bool, true, false, _||_}
 use lib.Dec.{eqb}
 use mathlib.Core.List.{List, [], _∷_}
 use Rattle.format.specs.Answers.{Answer, Refusal, plain, placed, got, refused, Step}
+use Rattle.format.specs.Bytes.{oneOf}
 use Rattle.format.specs.Pages.{pageSize}
 use Rattle.format.specs.Calls.{reading, writing, Edited, editing}
 use Rattle.format.specs.declared.Refusal as code
@@ -39,11 +40,6 @@ editGiven (edit.Refused x) = refused (refusalGiven x)
 abbrev pub stageGiven : Stage → Step
 stageGiven stage.Passed = got tt
 stageGiven (stage.Refused k) = refused (plain k)
-
--- one of the numbers of a list
-unfoldable pub oneOf : List ℕ → ℕ → Bool
-oneOf [] k = false
-oneOf (n ∷ ns) k = eqb k n || oneOf ns k
 
 -- the numbers of damage
 unfoldable pub damageNumbers : List ℕ

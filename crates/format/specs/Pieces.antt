@@ -12,6 +12,13 @@ abbrev pub stored : List ℕ → ℕ → List ℕ → ℕ → List ℕ → Type 
 stored before at piece r after =
     (r ≡ at + length piece) × (after ≡ take at before ++ (piece ++ drop (at + length piece) before))
 
+-- `len` bytes from `at` on; and none
+abbrev pub from : ℕ → ℕ → Part
+from at len = record { at = at; len = len }
+
+abbrev pub nowhere : Part
+nowhere = from 0 0
+
 -- a part that lies inside t holds s
 pub record Held (t : List ℕ) (p : Part) (s : List ℕ) : Type 0 where
   pub inside : p .at + p .len ≤ length t

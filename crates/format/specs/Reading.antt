@@ -9,7 +9,7 @@ use Rattle.format.specs.Answers.{Answer, Step, got, need, orElse, passed
 use Rattle.format.specs.Bytes.{if_then_else_, isEmpty, same, le16, part, strip}
 use Rattle.format.specs.Crc.{crc, covered}
 use Rattle.format.specs.Fields.{alternate, marked, goodItem, goodOwner, ownerSaid}
-use Rattle.format.specs.Chain.{Library, chain, libraryBlock, otherBlocks, libraryIn, goodLibrary}
+use Rattle.format.specs.Chain.{Library, chain, blockOf, otherBlocks, libraryIn, goodLibrary}
 use Rattle.format.specs.Elements.{Content, setBytes}
 
 -- ---- the parts of a tag
@@ -32,14 +32,14 @@ abbrev pub blocksIn : List ℕ → List (List ℕ)
 blocksIn t = orElse (walked t) []
 
 abbrev pub libraryOn : List ℕ → Library
-libraryOn t = libraryIn (libraryBlock (blocksIn t))
+libraryOn t = libraryIn (blockOf 1 (blocksIn t))
 
 -- ---- the tests
 
 -- no field breaks its form, and bytes 1 and 2 hold no ordinal above the parts
 unfoldable pub goodFields : List ℕ → Bool
 goodFields t =
-    leb (getD t 2 0) (getD t 1 0) && goodItem (itemIn t) && goodOwner (ownerIn t) && goodLibrary (libraryBlock (blocksIn t))
+    leb (getD t 2 0) (getD t 1 0) && goodItem (itemIn t) && goodOwner (ownerIn t) && goodLibrary (blockOf 1 (blocksIn t))
 
 -- a marked item is present; an owner in block 1 stands exactly with the marker; a nonzero usage byte agrees with byte 0's main qualifier
 unfoldable pub agree : List ℕ → Bool

@@ -10,12 +10,12 @@ use lib.ListN.{length, take, drop}
 use lib.Seq.{take-append-seam}
 use borrow.Author.Tests.{leb-true, eqb-true}
 use Rattle.format.specs.Answers.{Refusal, plain, placed, got, refused, inOrder, Passed, FirstRefusal}
-use Rattle.format.specs.Bytes.{all}
+use Rattle.format.specs.Bytes.{all, oneOf}
 use Rattle.format.specs.Pages.{pageSize}
 use Rattle.format.specs.Sheet.{Entry, sheetOf, fitting, entriesIn, entries}
 use Rattle.format.specs.Reading.{contentIn}
 use Rattle.format.specs.Calls.{sheetIn, readSteps, reading}
-use Rattle.format.specs.Numbers.{refusalGiven, readGiven, oneOf, damageNumbers, Gives, alone, damage, gives, oneGives, readGives, refusalNumber, refusalPlace, Reads}
+use Rattle.format.specs.Numbers.{refusalGiven, readGiven, damageNumbers, Gives, alone, damage, gives, oneGives, readGives, refusalNumber, refusalPlace, Reads}
 use Rattle.format.specs.declared.Refusal as code
 use Rattle.format.specs.declared.ReadAnswer.{ReadAnswer}
 use Rattle.format.specs.declared.ReadAnswer.the-variants as read

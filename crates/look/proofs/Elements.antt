@@ -11,9 +11,9 @@ use lib.Dec.{eqb}
 use borrow.Author.Tests.{eqb-false}
 use Rattle.format.specs.declared.Part.{Part}
 use Rattle.format.specs.Bytes.{if_then_else_, isEmpty, part, bytes, filled}
-use Rattle.format.specs.Pieces.{Held}
+use Rattle.format.specs.Pieces.{from, nowhere, Held}
 use Rattle.format.specs.Fields.{hyphen, alternate, marked, ownerSaid}
-use Rattle.format.specs.Chain.{libraryBlock}
+use Rattle.format.specs.Chain.{blockOf}
 use Rattle.format.specs.Elements.{setBytes}
 use Rattle.format.specs.Reading.{itemIn, ownerIn, blocksIn, libraryOn, agree, ownerOn, contentIn}
 use Rattle.format.proofs.Tests.{bytes-at, beq-false}
@@ -23,12 +23,12 @@ use Rattle.fields.specs.declared.ItemParts.{ItemParts}
 use Rattle.fields.specs.declared.OwnerParts.{OwnerParts}
 use Rattle.fields.specs.declared.LibraryParts.{LibraryParts}
 use Rattle.fields.proofs.Places.{Within, within-length}
-use Rattle.look.specs.Row.{from, nowhere, itemBy, alternativeItemBy, isilMade, isilBytes, isilBy, alternativeOwnerBy, mediaLength, usageBy, rowBy, frontMade, madeBy, IsilLies, OwnerLies, RowLies}
+use Rattle.look.specs.Row.{itemBy, alternativeItemBy, isilMade, isilBytes, isilBy, alternativeOwnerBy, mediaLength, usageBy, rowBy, frontMade, madeBy, IsilLies, OwnerLies, RowLies}
 use Rattle.look.specs.Looking.{FieldsOf}
 use Rattle.look.proofs.Standing.{part-part, held-length, Lies, lies-as, in-made, no-bytes, in-part, Holds, done, more}
 use Rattle.look.proofs.Steps.{item-of, owner-of, library-of}
 
-module _ (t : List ℕ) (block : Part) (h : Held t block (libraryBlock (blocksIn t))) (i : ItemParts) (o : OwnerParts) (l : LibraryParts) (f : FieldsOf t i o l) where
+module _ (t : List ℕ) (block : Part) (h : Held t block (blockOf 1 (blocksIn t))) (i : ItemParts) (o : OwnerParts) (l : LibraryParts) (f : FieldsOf t i o l) where
   pub row-lies : RowLies t (block .at) o l
   row-lies =
       let w = owner-of f in
@@ -75,7 +75,7 @@ module _ (t : List ℕ) (block : Part) (h : Held t block (libraryBlock (blocksIn
         omega (arith, isil-length, length-append s (drop (length s) made), length-drop (length s) made)
 
     -- n bytes from byte k of block 1
-    in-block : (k n : ℕ) (s : List ℕ) → Within (libraryBlock (blocksIn t)) k n s → (n ≡ 0 → k ≤ 19) → Lies t m (from (block .at + k) n) s
+    in-block : (k n : ℕ) (s : List ℕ) → Within (blockOf 1 (blocksIn t)) k n s → (n ≡ 0 → k ≤ 19) → Lies t m (from (block .at + k) n) s
     in-block k n s w z = in-part t m (block .at) (block .len) (omega (arith, h .inside)) k n s (rw (h .is) w) (λ e. omega (arith, z e, made-length))
 
     item-block : Lies t m (from (block .at + 5) (l .item)) (libraryOn t .item)

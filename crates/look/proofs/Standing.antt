@@ -12,10 +12,9 @@ use lib.Dec.{leb}
 use borrow.Author.Tests.{leb-true, leb-false}
 use Rattle.format.specs.declared.Part.{Part}
 use Rattle.format.specs.Bytes.{part}
-use Rattle.format.specs.Pieces.{Held}
+use Rattle.format.specs.Pieces.{from, Held}
 use Rattle.rows.specs.Rows.{slotsAt, Stands, Row, none, next}
 use Rattle.fields.proofs.Places.{Within}
-use Rattle.look.specs.Row.{from}
 
 -- ---- parts
 

@@ -16,14 +16,14 @@ use Rattle.format.specs.Numbers.{numberOf, refusalGiven}
 use Rattle.format.specs.Bytes.{same, le16, part, filled}
 use Rattle.format.specs.Pages.{pageSize, goodSize}
 use Rattle.format.specs.Fields.{goodItem, goodOwner}
-use Rattle.format.specs.Chain.{libraryBlock, goodLibrary}
+use Rattle.format.specs.Chain.{blockOf, goodLibrary}
 use Rattle.format.specs.Reading.{mainUsage, itemIn, ownerIn, walked, blocksIn, libraryOn, goodFields, agree, tagSteps}
 use Rattle.format.proofs.Tests.{and-no}
 use Rattle.format.proofs.Answers.{need-ok, need-no, first-ok, next-inv, none-inv, passed-ok, refused-on, passed-on, afterwards-got, afterwards-refused}
 use Rattle.format.proofs.Strings.{empty-length}
 use Rattle.format.proofs.Layouts.{size-cases, size-most}
 use Rattle.format.proofs.Sound.{fields-parts}
-use Rattle.chain.proofs.Places.{placeFrom, endFrom}
+use Rattle.chain.specs.Survey.{Found}
 use Rattle.chain.proofs.Laws.{Surveyed}
 use Rattle.fields.specs.declared.ItemParts.{ItemParts}
 use Rattle.fields.specs.declared.OwnerParts.{OwnerParts}
@@ -85,14 +85,14 @@ module _ (t : List ℕ) where
   ownerSeen = ownerGiven (ownerForm (part 21 13 t))
 
   abbrev pub librarySeen : Answer LibraryParts
-  librarySeen = libraryGiven (libraryForm (libraryBlock (blocksIn t)))
+  librarySeen = libraryGiven (libraryForm (blockOf 1 (blocksIn t)))
 
   -- the fields are good: one step after the other
   pub fields-each : {A : Type 0} (p : A)
       → foundIf (goodFields t) p ≡ inOrder (need 6 (leb (getD t 2 0) (getD t 1 0)) ∷ passed itemSeen ∷ passed ownerSeen ∷ passed librarySeen ∷ []) p
   unfolding goodFields
   fields-each p =
-      simp (item-given (part 3 16 t), owner-given (part 21 13 t), library-given (libraryBlock (blocksIn t)), passed-found)
+      simp (item-given (part 3 16 t), owner-given (part 21 13 t), library-given (blockOf 1 (blocksIn t)), passed-found)
       (need-and 6 _ _ [] p ∙ need-and 6 _ _ _ p ∙ need-and 6 _ _ _ p)
 
 pub found-got : {A : Type 0} (good : Bool) (parts p : A) → foundIf good parts ≡ got p → (good ≡ true) × (p ≡ parts)
@@ -101,7 +101,7 @@ found-got good parts p e = let h = next-inv 6 good [] parts p e in (h .0, sym (n
 pub fields-found : (t : List ℕ) (i : ItemParts) (o : OwnerParts) (l : LibraryParts) → itemSeen t ≡ got i → ownerSeen t ≡ got o → librarySeen t ≡ got l
     → got (partsOn t) ≡ foundIf (goodFields t) (partsOn t) → fieldsGiven (fields.Good i o l) ≡ foundIf (goodFields t) (partsOn t)
 fields-found t i o l ei eo el e =
-    let b : List ℕ = libraryBlock (blocksIn t) in
+    let b : List ℕ = blockOf 1 (blocksIn t) in
     let qi = found-got (goodItem (itemIn t)) (itemOn t) i (sym (item-given (part 3 16 t)) ∙ ei) in
     let qo = found-got (goodOwner (ownerIn t)) (ownerPartsOn t) o (sym (owner-given (part 21 13 t)) ∙ eo) in
     let ql = found-got (goodLibrary b) (libraryPartsOn t) l (sym (library-given b) ∙ el) in
@@ -121,8 +121,8 @@ module _ {t : List ℕ} {i : ItemParts} {o : OwnerParts} {l : LibraryParts} (f :
   pub owner-of : OwnerStands (part 21 13 t) o
   owner-of = rw (f .owner) (owner-stands (part 21 13 t) (fields-parts t (f .good) .owner))
 
-  pub library-of : LibraryStands (libraryBlock (blocksIn t)) l
-  library-of = rw (f .library) (library-stands (libraryBlock (blocksIn t)))
+  pub library-of : LibraryStands (blockOf 1 (blocksIn t)) l
+  library-of = rw (f .library) (library-stands (blockOf 1 (blocksIn t)))
 
   agree-by : agree t ≡ not (i .marked && eqb (l .item) 0) && Bool·beq (o .marked) (not (eqb (l .owner) 0)) && (eqb (l .usage) 0 || eqb (l .usage / 16) (mainUsage t))
   unfolding agree
@@ -177,15 +177,15 @@ stopped {t} {ats} {lens} {made} {x} e =
     let same : (new old : List ℕ) → old ≡ afterwards (looking t) new old = λ new old. sym (afterwards-refused (looking t) (refusalGiven x) new old e) in
     record { answered = sym e; ats-left = same _ ats; lens-left = same _ lens; made-left = same _ made }
 
-pub looked : {t ats lens made ats′ lens′ made′ : List ℕ} {l n c z d : ℕ} {i : ItemParts} {o : OwnerParts} {f : LibraryParts} {p : Part} → Surveyed t l n c z d → FieldsOf t i o f
-    → looking t ≡ got (viewIn t) → ats′ ≡ atsBy t l i o f → lens′ ≡ lensBy t l i o f → made′ ≡ filled (madeBy t o f) made → p ≡ pieceBy l n z d
-    → Looked t ats lens made (look.Seen (record { count = c; size = z; blocks = p })) ats′ lens′ made′
-unfolding viewIn placeFrom endFrom
+pub looked : {t ats lens made ats′ lens′ made′ : List ℕ} {s : Found} {i : ItemParts} {o : OwnerParts} {f : LibraryParts} {p : Part} → Surveyed t s → FieldsOf t i o f
+    → looking t ≡ got (viewIn t) → ats′ ≡ atsBy t (s .library .at) i o f → lens′ ≡ lensBy t (s .library .at) i o f → made′ ≡ filled (madeBy t o f) made → p ≡ pieceBy (s .library) (s .size) (s .end)
+    → Looked t ats lens made (look.Seen (record { count = s .count; size = s .size; blocks = p })) ats′ lens′ made′
+unfolding viewIn
 looked {t} {ats} {lens} {made} v g e a b m q =
     let new : (new old : List ℕ) → new ≡ afterwards (looking t) new old = λ new old. sym (afterwards-got (looking t) (viewIn t) new old e) in
     record {
-      answered = rw (q, ← v .place, v .sized, v .count, v .size, ← v .ends) (sym e);
-      ats-left = a ∙ rw (← v .place, g .item, g .owner, g .library) (new _ ats);
-      lens-left = b ∙ rw (← v .place, g .item, g .owner, g .library) (new _ lens);
+      answered = rw (q, ← v .is) (sym e);
+      ats-left = a ∙ rw (← v .is, g .item, g .owner, g .library) (new _ ats);
+      lens-left = b ∙ rw (← v .is, g .item, g .owner, g .library) (new _ lens);
       made-left = m ∙ rw (g .owner, g .library) (new _ made);
     }

@@ -9,7 +9,7 @@ use Rattle.format.specs.Answers.{Answer, got, refused, plain, Step, inOrder, ne
 use Rattle.format.specs.Bytes.{same, le16, part}
 use Rattle.format.specs.Pages.{pageSize, goodSize}
 use Rattle.format.specs.Crc.{crc, covered}
-use Rattle.format.specs.Chain.{libraryBlock}
+use Rattle.format.specs.Chain.{blockOf}
 use Rattle.format.specs.Reading.{blocksIn, goodFields}
 use Rattle.fields.specs.declared.ItemParts.{ItemParts}
 use Rattle.fields.specs.declared.OwnerParts.{OwnerParts}
@@ -43,7 +43,7 @@ abbrev pub ownerPartsOn : List ℕ → OwnerParts
 ownerPartsOn t = ownerParts (part 21 13 t)
 
 abbrev pub libraryPartsOn : List ℕ → LibraryParts
-libraryPartsOn t = libraryParts (libraryBlock (blocksIn t))
+libraryPartsOn t = libraryParts (blockOf 1 (blocksIn t))
 
 abbrev pub partsOn : List ℕ → ItemParts × OwnerParts × LibraryParts
 partsOn t = (itemOn t, ownerPartsOn t, libraryPartsOn t)

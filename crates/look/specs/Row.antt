@@ -9,18 +9,12 @@ use lib.ListN.{length, getD, take, drop, set}
 use lib.Dec.{eqb}
 use Rattle.format.specs.declared.Part.{Part}
 use Rattle.format.specs.Bytes.{if_then_else_, part}
+use Rattle.format.specs.Pieces.{from, nowhere}
 use Rattle.format.specs.Fields.{hyphen, alternate}
 use Rattle.format.specs.Reading.{mainUsage}
 use Rattle.fields.specs.declared.ItemParts.{ItemParts}
 use Rattle.fields.specs.declared.OwnerParts.{OwnerParts}
 use Rattle.fields.specs.declared.LibraryParts.{LibraryParts}
-
--- `len` bytes from `at` on; and none
-abbrev pub from : ℕ → ℕ → Part
-from at len = record { at = at; len = len }
-
-abbrev pub nowhere : Part
-nowhere = from 0 0
 
 -- ---- items: block 1, which begins at `block`, has its item field from its byte 5 on; that is element 1 under the marker, else 22
 
@@ -92,11 +86,10 @@ madeBy t o l = frontMade t l ++ isilBytes t o l
 
 -- ---- the carried blocks
 
--- in one piece, by the place and length of block 1, their size and the chain's end: nowhere, unless there are some, block 1 is the first
--- block or there is none, and the chain has no filler
-unfoldable pub pieceBy : ℕ → ℕ → ℕ → ℕ → Part
-pieceBy library length size end =
-    if not (eqb size 0) && (eqb length 0 || eqb library 34) && eqb (34 + length + size) end then from (34 + length) size else nowhere
+-- in one piece, by block 1, their size and the chain's end: nowhere, unless there are some, block 1 is the first block or there is none, and
+-- the chain has no filler
+unfoldable pub pieceBy : Part → ℕ → ℕ → Part
+pieceBy l size end = if not (eqb size 0) && (eqb (l .len) 0 || eqb (l .at) 34) && eqb (34 + l .len + size) end then from (34 + l .len) size else nowhere
 
 -- ---- what the functions that lay down a row rely on
 

@@ -2,14 +2,13 @@
 use mathlib.Core.Path.{_≡_}
 use Prim.Native.Nat.{ℕ}
 use mathlib.Core.List.{List, _∷_}
-use lib.ListN.{length, drop}
+use lib.ListN.{length}
 use Rattle.format.specs.Answers.{Answer, got, refused, Step, inOrder, need, afterwards}
-use Rattle.format.specs.Bytes.{joined, filled}
+use Rattle.format.specs.Bytes.{filled}
 use Rattle.format.specs.Pages.{pageSize, goodSize}
-use Rattle.format.specs.Chain.{libraryBlock, otherBlocks}
-use Rattle.format.specs.Reading.{blocksIn, tagSteps}
+use Rattle.format.specs.Reading.{tagSteps}
 use Rattle.format.specs.Numbers.{refusalGiven}
-use Rattle.chain.specs.Survey.{libraryAt, endAt}
+use Rattle.chain.specs.Survey.{Found, foundOn}
 use Rattle.look.specs.declared.View.{View}
 use Rattle.look.specs.declared.Look.{Look}
 use Rattle.look.specs.declared.Look.the-variants.{Seen, Refused}
@@ -18,29 +17,18 @@ use Rattle.look.specs.Looking.{itemOn, ownerPartsOn, libraryPartsOn}
 
 -- ---- what the tag t holds and where
 
--- where block 1 begins, 0 where there is none
-abbrev pub blockIn : List ℕ → ℕ
-blockIn t = libraryAt (length (drop 34 t)) 34 (drop 34 t)
-
 abbrev pub atsIn : List ℕ → List ℕ
-atsIn t = atsBy t (blockIn t) (itemOn t) (ownerPartsOn t) (libraryPartsOn t)
+atsIn t = atsBy t (foundOn t .library .at) (itemOn t) (ownerPartsOn t) (libraryPartsOn t)
 
 abbrev pub lensIn : List ℕ → List ℕ
-lensIn t = lensBy t (blockIn t) (itemOn t) (ownerPartsOn t) (libraryPartsOn t)
+lensIn t = lensBy t (foundOn t .library .at) (itemOn t) (ownerPartsOn t) (libraryPartsOn t)
 
 abbrev pub madeIn : List ℕ → List ℕ
 madeIn t = madeBy t (ownerPartsOn t) (libraryPartsOn t)
 
 -- the carried blocks
 unfoldable pub viewIn : List ℕ → View
-viewIn t =
-    let others : List (List ℕ) = otherBlocks (blocksIn t) in
-    let size : ℕ = length (joined others) in
-    record {
-      count = length others;
-      size = size;
-      blocks = pieceBy (blockIn t) (length (libraryBlock (blocksIn t))) size (endAt (length (drop 34 t)) 34 (drop 34 t));
-    }
+viewIn t = let f : Found = foundOn t in record { count = f .count; size = f .size; blocks = pieceBy (f .library) (f .size) (f .end) }
 
 -- ---- the answer
 

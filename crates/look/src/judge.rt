@@ -11,7 +11,7 @@ ghost use mathlib.Core.Path.{_≡_};
 ghost use mathlib.Core.List.{[], _∷_};
 ghost use Rattle.format.specs.Answers.{need, inOrder};
 ghost use Rattle.format.specs.Pieces.{Held};
-ghost use Rattle.format.specs.Chain.{libraryBlock};
+ghost use Rattle.format.specs.Chain.{blockOf};
 ghost use Rattle.format.specs.Reading.{blocksIn, goodFields, agree};
 ghost use Rattle.format.specs.Numbers.{stageGiven, numberOf};
 ghost use Rattle.look.specs.Looking.{Sized, partsOn, fieldsGiven, FieldsOf};
@@ -34,7 +34,7 @@ pub fn fields_number(found: FieldsFound) -> u32
 
 // Refusal 6: is the ordinal above the parts, or does a field break its form? Else what the fields hold.
 pub fn find_fields(tag: &[u8], block: Part) -> FieldsFound
-    requires { ⌜ Sized (now tag) × Held (now tag) block (libraryBlock (blocksIn (now tag))) ⌝ }
+    requires { ⌜ Sized (now tag) × Held (now tag) block (blockOf 1 (blocksIn (now tag))) ⌝ }
     ensures { λ r. ⌜ fieldsGiven r ≡ inOrder (need 6 (goodFields (now (tag .entry))) ∷ []) (partsOn (now (tag .entry))) ⌝ }
 {
     if tag[1] < tag[2] {

@@ -55,7 +55,6 @@ pub fn look_at(
     let survey = chain::survey_of(tag);
     let Survey::Whole {
         library,
-        length,
         count,
         size,
         end,
@@ -63,11 +62,7 @@ pub fn look_at(
     else {
         return Look::Refused(chain::survey_refusal(survey));
     };
-    let block = Part {
-        at: library,
-        len: length,
-    };
-    let found = judge::find_fields(tag, block);
+    let found = judge::find_fields(tag, library);
     let FieldsFound::Good(item, owner, fields) = found else {
         return Look::Refused(Refusal::Plain(judge::fields_number(found)));
     };
@@ -75,8 +70,8 @@ pub fn look_at(
     let Stage::Passed = agreed else {
         return Look::Refused(Refusal::Plain(format::stage_number(agreed)));
     };
-    row::fill_row(tag, library, item, owner, fields, ats, lens, made);
-    let blocks = row::one_piece(library, length, size, end);
+    row::fill_row(tag, library.at, item, owner, fields, ats, lens, made);
+    let blocks = row::one_piece(library, size, end);
     Look::Seen(View {
         count,
         size,

@@ -8,7 +8,8 @@ ghost use mathlib.Core.Path.{_≡_};
 ghost use Prim.Native.Nat.{_+_, _≤_, _<_};
 ghost use lib.ListN.{length, set};
 ghost use Rattle.format.specs.Bytes.{filled};
-ghost use Rattle.look.specs.Row.{nowhere, mediaLength, usageBy, frontMade, itemBy, alternativeItemBy, pieceBy, atsBy, lensBy, madeBy, RowLies};
+ghost use Rattle.format.specs.Pieces.{nowhere};
+ghost use Rattle.look.specs.Row.{mediaLength, usageBy, frontMade, itemBy, alternativeItemBy, pieceBy, atsBy, lensBy, madeBy, RowLies};
 
 // The element at place k of the table has `len` bytes from `at`.
 pub fn hold(ats: &mut [usize], lens: &mut [usize], k: usize, at: usize, len: usize)
@@ -114,21 +115,21 @@ fn nowhere() -> Part
 
 // Where the carried blocks stand in one piece, by what the survey gives: there are some, block 1 is the first or there is none, and the
 // chain has no filler. Else a part of no bytes.
-pub fn one_piece(library: usize, length: usize, size: usize, end: usize) -> Part
-    requires { ⌜ length + size ≤ 2048 ⌝ }
-    ensures { λ r. ⌜ r ≡ pieceBy library length size end ⌝ }
+pub fn one_piece(library: Part, size: usize, end: usize) -> Part
+    requires { ⌜ library .len + size ≤ 2048 ⌝ }
+    ensures { λ r. ⌜ r ≡ pieceBy library size end ⌝ }
 {
     if size == 0 {
         return nowhere();
     }
-    if length != 0 && library != 34 {
+    if library.len != 0 && library.at != 34 {
         return nowhere();
     }
-    if 34 + length + size != end {
+    if 34 + library.len + size != end {
         return nowhere();
     }
     Part {
-        at: 34 + length,
+        at: 34 + library.len,
         len: size,
     }
 }

@@ -10,7 +10,7 @@ use lib.ListN.{length, getD, List·getD-eq-default}
 use borrow.Author.Tests.{eqb-true, eqb-false, ltb-true, ltb-false, eq-eqb, ne-eqb}
 use Rattle.format.specs.Answers.{got}
 use Rattle.format.specs.Bytes.{word, joined}
-use Rattle.format.specs.Chain.{idOf, isLibrary}
+use Rattle.format.specs.Chain.{idOf, takenApart}
 use Rattle.format.specs.Reading.{walked, blocksIn}
 use Rattle.format.specs.Pieces.{stored}
 use Rattle.format.proofs.Blocks.{well-facts}
@@ -50,14 +50,14 @@ module _ (t : List ℕ) (from : ℕ) (cs : List (List ℕ)) (h : CarriedFrom t f
       | inr two ↦
           let named : idOf b ≡ 0 → ⊥ = eqb-false (idOf b) 0 (ap (λ (x : List ℕ). eqb (idOf x) 0) is ∙ well-facts (blockAt t from) (carried-well t from cs h two) .id-there) in
           let one : idOf b ≡ 1 = omega arith in
-          carried-library t from cs h two (sym (ap isLibrary is) ∙ eq-eqb (idOf b) 1 one)
+          carried-library t from cs h two (sym (ap takenApart is) ∙ eq-eqb (idOf b) 1 one)
     ])
 
     -- a carried block: it is the first of those that were left
     carried-here : 1 < idOf b → (ds : List (List ℕ)) × (cs ≡ b ∷ ds) × CarriedFrom t (from + length b) ds
     carried-here high = elim filler-or-block [
       | inl e ↦ absurd (omega (arith, short-id b (omega (arith, block-size))))
-      | inr two ↦ rw (block-size, is) (carried-other t from cs h two (sym (ap isLibrary is) ∙ ne-eqb (idOf b) 1 (omega arith)))
+      | inr two ↦ rw (block-size, is) (carried-other t from cs h two (sym (ap takenApart is) ∙ ne-eqb (idOf b) 1 (omega arith)))
     ]
 
 -- ---- the loop

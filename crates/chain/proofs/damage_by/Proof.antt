@@ -23,7 +23,7 @@ unfolding damageBy
 returns-3 c = rw (ne-eqb _ 0 (c .before .before .if1 .left), le-leb 4 _ (c .before .if2 .left), ne-eqb _ _ (c .if3 .taken))
 
 -- behind the test of the checksum
-decided : (c : tie.Else3) → let a = c .before .before .before .args in damageBy (a .n) (a .id) (a .x) (a .seen) ≡ (if eqb (a .id) 1 && a .seen then 19 else 0)
+decided : (c : tie.Else3) → let a = c .before .before .before .args in damageBy (a .n) (a .id) (a .x) (eqb (a .id) 1 && a .seen) ≡ (if eqb (a .id) 1 && a .seen then 19 else 0)
 unfolding damageBy
 decided c = rw (ne-eqb _ 0 (c .before .before .if1 .left), le-leb 4 _ (c .before .if2 .left), eq-eqb _ _ (c .if3 .left))
 

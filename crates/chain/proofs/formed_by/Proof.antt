@@ -1,10 +1,11 @@
 -- `chain::formed_by` meets its contract: it makes the tests of `formedBy` in its order.
-use mathlib.Core.Path.{_≡_, sym, _∙_}
+use mathlib.Core.Path.{_≡_, refl, sym, _∙_}
 use mathlib.Core.Bool.{true, false}
 use lib.Dec.{eqb, leb}
 use borrow.Author.Needs.{needs}
 use borrow.Author.Tests.{le-leb, lt-leb, eq-eqb, ne-eqb}
 use Rattle.format.specs.Bytes.{if_then_else_}
+use Rattle.format.proofs.Tests.{and-no}
 use Rattle.chain.specs.Formed.{damageBy, formedBy}
 use Rattle.chain.proofs.formed_by.Statement.{statement}
 use Rattle.chain.proofs.formed_by.Tie as tie
@@ -38,7 +39,7 @@ damage-by-requires : tie.Need-damage-by-requires
 damage-by-requires c κs = search needs
 
 returns-4 : tie.Need-returns-4
-returns-4 c = sym (decided (c .before .before) ∙ rw (le-leb _ 100 (c .before .if3 .left), ← (c .damage-by .ensures)))
+returns-4 c = sym (decided (c .before .before) ∙ rw (le-leb _ 100 (c .before .if3 .left), ← (and-no (eqb (c .before .before .id-of .result) 1) false refl), ← (c .damage-by .ensures)))
 
 pub formed-by-spec : {M : Type 1} → statement M
 formed-by-spec = tie.close (tie.spec returns byte-at-requires returns-2 id-of-requires returns-3 damage-by-requires returns-4)

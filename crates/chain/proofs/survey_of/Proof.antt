@@ -2,42 +2,42 @@
 -- The byte loop: the bytes behind byte k, with the XOR so far, come to the XOR of all behind the first.
 use mathlib.Core.Path.{_≡_, refl, sym, ap, ap₂, _∙_}
 use mathlib.Core.Logic.{inl, inr, ⊎-elim}
-use mathlib.Core.Bool.{Bool, true, false}
-use mathlib.Core.List.{List}
+use mathlib.Core.Bool.{true, false, not, _&&_}
+use mathlib.Core.List.{List, []}
 use Prim.Native.Nat.{ℕ, _+_, _-_, _≤_}
 use native.Mathlib.Omega.{arith}
 use lib.Bits.{bitXor}
 use lib.Dec.{eqb}
 use lib.ListN.{length, getD, drop, length-take, length-drop}
 use borrow.Author.Needs.{needs}
-use borrow.Author.Tests.{le-leb, lt-leb, eq-eqb, ne-eqb}
+use borrow.Author.Tests.{le-leb, lt-leb, ne-eqb}
 use Rattle.format.specs.Answers.{Answer, placed, got, refused}
-use Rattle.format.specs.Bytes.{if_then_else_, xorAll}
-use Rattle.format.specs.Chain.{lengthOf, idOf, structured, damageOf}
+use Rattle.format.specs.Bytes.{if_then_else_, oneOf, xorAll}
+use Rattle.format.specs.Pieces.{from}
+use Rattle.format.specs.Chain.{lengthOf, idOf, structured, single, damageOf}
 use Rattle.format.specs.Damage.{blockAt}
-use Rattle.format.proofs.Blocks.{undamaged}
-use Rattle.format.proofs.Chains.{past-end, says-at, Stands, stands}
+use Rattle.format.proofs.Chains.{past-end, says-at, Stands}
 use Rattle.format.proofs.Damages.{number-none, number-some}
 use Rattle.format.specs.Numbers.{numberOf}
 use Rattle.chain.specs.Formed.{damageBy}
 use Rattle.chain.specs.Survey.{Found, surveyOf}
 use Rattle.chain.proofs.Formed.{unstructured, damage-by, length-two, cut-short}
-use Rattle.chain.proofs.Turns.{xor-more, xor-all, found, seen, SoFar, start, ended, filler, damaged, library, other, moved}
+use Rattle.chain.proofs.Turns.{xor-more, xor-all, found, SoFar, start, second, ended, filler, damaged, there, library, other, moved}
 use Rattle.chain.proofs.survey_of.Statement.{statement}
 use Rattle.chain.proofs.survey_of.Tie as tie
 
 abbrev Inv-loop : tie.InvT-loop
-Inv-loop tag at l len count size number₀ block n id x₀ k₀ number x k =
+Inv-loop tag at l count size number₀ block n id x₀ k₀ number x k =
     (number ≡ 0) × (bitXor x (xorAll (drop k block)) ≡ xorAll (drop 1 block)) × (k ≤ length block)
 
 abbrev μ-loop : tie.MeasureT-loop
-μ-loop tag at l len count size number₀ block n id x₀ k₀ number x k = n - k
+μ-loop tag at l count size number₀ block n id x₀ k₀ number x k = n - k
 
 abbrev Inv-chain : tie.InvT-chain
-Inv-chain tag at₀ l₀ len₀ count₀ size₀ number₀ at l len count size number = (number ≡ 0) × SoFar tag at l len count size
+Inv-chain tag at₀ l₀ count₀ size₀ number₀ at l count size number = (number ≡ 0) × SoFar tag at l count size
 
 abbrev μ-chain : tie.MeasureT-chain
-μ-chain tag at₀ l₀ len₀ count₀ size₀ number₀ at l len count size number = length tag - at
+μ-chain tag at₀ l₀ count₀ size₀ number₀ at l count size number = length tag - at
 
 -- ---- what is known of a block whose length is not 0, 1 or 2
 
@@ -46,7 +46,7 @@ three-at-least n g e h k l = omega arith
 
 -- its length, as it says, is not 2
 not-two : (t : List ℕ) (at : ℕ) → 3 ≤ getD t at 0 → lengthOf (blockAt t at) ≡ 2 → ⊥
-not-two t at h e = omega (arith, says-at t at false (omega arith))
+not-two t at h e = omega (arith, says-at t at [] (omega arith))
 
 -- it has no more bytes than it says
 no-longer : (t : List ℕ) (at : ℕ) → length (blockAt t at) ≤ getD t at 0
@@ -65,8 +65,8 @@ module _ (c : tie.After-id-of Inv-loop μ-loop Inv-chain μ-chain) where
   abbrev at : ℕ
   at = turn .chain .at
 
-  abbrev before : Bool
-  before = seen (turn .chain .length)
+  abbrev before : List ℕ
+  before = turn .chain .inv .1 .seen
 
   -- the number that the block's first byte is, and the block
   size : c .before .before .before .before .byte-at .result ≡ getD tag at 0
@@ -83,7 +83,7 @@ module _ (c : tie.After-id-of Inv-loop μ-loop Inv-chain μ-chain) where
 
   -- it is as long as it says, where it has as many bytes
   says : getD tag at 0 ≤ length (blockAt tag at) → lengthOf (blockAt tag at) ≡ length (blockAt tag at)
-  says h = omega (arith, h, no-longer tag at, says-at tag at false (omega (arith, three)))
+  says h = omega (arith, h, no-longer tag at, says-at tag at [] (omega (arith, three)))
 
 -- a structured block, behind the byte loop
 module _ (c : tie.After-loop Inv-loop μ-loop Inv-chain μ-chain) where
@@ -105,11 +105,11 @@ module _ (c : tie.After-loop Inv-loop μ-loop Inv-chain μ-chain) where
       ∙ ap (λ (b : List ℕ). xorAll (drop 1 b)) (is named-block)
 
   -- the number of its damage
-  number-is : (r : ℕ) → r ≡ damageBy (c .before .before .before .before .before .before .before .byte-at .result) (named-block .id-of .result) (c .before .loop .x) (before named-block)
+  number-is : (r : ℕ) → r ≡ damageBy (c .before .before .before .before .before .before .before .byte-at .result) (named-block .id-of .result) (c .before .loop .x) (eqb (named-block .id-of .result) 1 && not (eqb (turn named-block .chain .library .len) 0))
       → numberOf (damageOf (at named-block) (before named-block) block) ≡ r
   number-is r e =
-      let says-here : c .before .before .before .before .before .before .before .byte-at .result ≡ lengthOf block = size named-block ∙ sym (says-at (tag named-block) (at named-block) false (omega (arith, three named-block))) in
-      sym (e ∙ ap₂ (λ (n i : ℕ). damageBy n i (c .before .loop .x) (before named-block)) says-here (id-is named-block)
+      let says-here : c .before .before .before .before .before .before .before .byte-at .result ≡ lengthOf block = size named-block ∙ sym (says-at (tag named-block) (at named-block) [] (omega (arith, three named-block))) in
+      sym (e ∙ ap (damageBy _ _ _) (sym (second _ _ _ _ _ (turn named-block .chain .inv .1) (named-block .id-of .result))) ∙ ap₂ (λ (n i : ℕ). damageBy n i (c .before .loop .x) (single i && oneOf (before named-block) i)) says-here (id-is named-block)
       ∙ damage-by block (c .before .loop .x) low whole-block sum (at named-block) (before named-block) (not-two (tag named-block) (at named-block) (three named-block)))
 
 -- ---- it has no damage
@@ -122,31 +122,29 @@ module _ (c : tie.Joined4 Inv-loop μ-loop Inv-chain μ-chain) where
   none = elim (c .if4 .came) [
     | inl w ↦
         let l : tie.After-loop Inv-loop μ-loop Inv-chain μ-chain = record { before = record { before = record { before = c .before; if4 = w .0 }; loop = w .1 }; loop-test = w .2 } in
-        number-none (at judged) (before judged) (blockAt (tag judged) (at judged)) (number-is l _ (w .3 .ensures) ∙ w .4 .left)
+        number-none (at judged) (before judged) (blockAt (tag judged) (at judged)) (number-is l _ (w .4 .ensures) ∙ w .5 .left)
     | inr w ↦
         let high : structured (blockAt (tag judged) (at judged)) ≡ false = lt-leb (idOf (blockAt (tag judged) (at judged))) 100 (omega (arith, w .0 .left, id-is judged)) in
         unstructured _ high (at judged) (before judged) (not-two (tag judged) (at judged) (three judged)) (says judged (omega (arith, w .1 .left, ap length (is judged), size judged)))
   ]
 
   unharmed : c .if4 .number ≡ 0
-  unharmed = ⊎-elim (λ w. w .5 ∙ w .4 .left) (λ w. w .2 ∙ turn judged .chain .inv .0) (c .if4 .came)
+  unharmed = ⊎-elim (λ w. w .6 ∙ w .5 .left) (λ w. w .2 ∙ turn judged .chain .inv .0) (c .if4 .came)
 
   two : 2 ≤ getD (tag judged) (at judged) 0
   two = omega (arith, three judged)
 
   stands-here : Stands (tag judged) (at judged)
-  stands-here =
-      stands (tag judged) (at judged)
-      (undamaged (at judged) (before judged) (blockAt (tag judged) (at judged)) tt (omega (arith, two, says-at (tag judged) (at judged) false (omega (arith, two)))) none .0)
+  stands-here = there (tag judged) (at judged) _ _ _ (turn judged .chain .inv .1) two none
 
   -- what is found with block 1, and with another
   with-library : judged .id-of .result ≡ 1
-      → SoFar (tag judged) (at judged + getD (tag judged) (at judged) 0) (at judged) (getD (tag judged) (at judged) 0) (turn judged .chain .count) (turn judged .chain .size)
-  with-library e = library (tag judged) (at judged) _ _ _ _ (turn judged .chain .inv .1) two none (eq-eqb (idOf (blockAt (tag judged) (at judged))) 1 (sym (id-is judged) ∙ e))
+      → SoFar (tag judged) (at judged + getD (tag judged) (at judged) 0) (from (at judged) (getD (tag judged) (at judged) 0)) (turn judged .chain .count) (turn judged .chain .size)
+  with-library e = library (tag judged) (at judged) _ _ _ (turn judged .chain .inv .1) two none (sym (id-is judged) ∙ e)
 
   with-other : (judged .id-of .result ≡ 1 → ⊥)
-      → SoFar (tag judged) (at judged + getD (tag judged) (at judged) 0) (turn judged .chain .library) (turn judged .chain .length) (turn judged .chain .count + 1) (turn judged .chain .size + getD (tag judged) (at judged) 0)
-  with-other e = other (tag judged) (at judged) _ _ _ _ (turn judged .chain .inv .1) two none (ne-eqb (idOf (blockAt (tag judged) (at judged))) 1 (λ h. e (id-is judged ∙ h)))
+      → SoFar (tag judged) (at judged + getD (tag judged) (at judged) 0) (turn judged .chain .library) (turn judged .chain .count + 1) (turn judged .chain .size + getD (tag judged) (at judged) 0)
+  with-other e = other (tag judged) (at judged) _ _ _ (turn judged .chain .inv .1) two none (λ h. e (id-is judged ∙ h))
 
 -- ---- the ways out
 
@@ -162,33 +160,33 @@ harmed k j at f e z q = ap (λ (n : ℕ). told n at f) e ∙ rw (ne-eqb j 0 z) q
 
 -- however the chain was left, the number and the rest say what is right
 left-rightly : (c : tie.Left-chain Inv-loop μ-loop Inv-chain μ-chain)
-    → told (c .chain-test .number) (c .before .chain .at) (found (c .before .chain .library) (c .before .chain .length) (c .before .chain .count) (c .before .chain .size) (c .before .chain .at))
+    → told (c .chain-test .number) (c .before .chain .at) (found (c .before .chain .library) (c .before .chain .count) (c .before .chain .size) (c .before .chain .at))
     ≡ surveyOf (c .before .before .before .args .tag .now)
 left-rightly c =
     let t : List ℕ = c .before .before .before .args .tag .now in
     let at : ℕ = c .before .chain .at in
     let i = c .before .chain .inv in
-    let damage = damaged t at _ _ _ _ (i .1) in
+    let damage = damaged t at _ _ _ (i .1) in
     elim (c .chain-test .came) [
-      | inl w ↦ whole _ _ _ (w .1 ∙ i .0) (ended t at _ _ _ _ (i .1) (past-end t at (w .0 .left)))
+      | inl w ↦ whole _ _ _ (w .1 ∙ i .0) (ended t at _ _ _ (i .1) (past-end t at (w .0 .left)))
       | inr v ↦ elim v [
-        | inl w ↦ whole _ _ _ (w .4 ∙ i .0) (ended t at _ _ _ _ (i .1) (sym (w .2 .ensures .0) ∙ w .3 .taken))
+        | inl w ↦ whole _ _ _ (w .4 ∙ i .0) (ended t at _ _ _ (i .1) (sym (w .2 .ensures .0) ∙ w .3 .taken))
         | inr v ↦ elim v [
           | inl w ↦
               let two : getD t at 0 ≡ 2 = sym (w .2 .ensures .0) ∙ w .5 .taken in
-              harmed _ 15 _ _ (w .6) (λ e. omega arith) (damage (omega arith) 15 (length-two at _ (blockAt t at) (says-at t at false (omega arith) ∙ two)))
+              harmed _ 15 _ _ (w .6) (λ e. omega arith) (damage (omega arith) 15 (length-two at _ (blockAt t at) (says-at t at [] (omega arith) ∙ two)))
           | inr v ↦ elim v [
             | inl w ↦
                 let h = three-at-least _ _ (w .2 .ensures .0) (w .3 .left) (w .4 .left) (w .5 .left) in
-                let short : lengthOf (blockAt t at) ≡ length (blockAt t at) → ⊥ = λ e. omega (arith, e, says-at t at false (omega arith), w .2 .ensures .0, ap length (w .1 .ensures .0), w .9 .taken, w .10 .taken) in
+                let short : lengthOf (blockAt t at) ≡ length (blockAt t at) → ⊥ = λ e. omega (arith, e, says-at t at [] (omega arith), w .2 .ensures .0, ap length (w .1 .ensures .0), w .9 .taken, w .10 .taken) in
                 harmed _ 16 _ _ (w .11) (λ e. omega arith) (damage (omega arith) 16 (cut-short at _ (blockAt t at) (not-two t at h) short))
             | inr v ↦ elim v [
               | inl w ↦
                   let l : tie.After-loop Inv-loop μ-loop Inv-chain μ-chain = record { before = record { before = record { before = _; if4 = w .7 }; loop = w .8 }; loop-test = w .9 } in
-                  harmed _ _ _ _ (w .12) (w .11 .taken) (damage (omega (arith, three (named-block l))) _ (number-some at _ (blockAt t at) _ (number-is l _ (w .10 .ensures)) (w .11 .taken)))
+                  harmed _ _ _ _ (w .13) (w .12 .taken) (damage (omega (arith, three (named-block l))) _ (number-some at _ (blockAt t at) _ (number-is l _ (w .11 .ensures)) (w .12 .taken)))
               | inr w ↦
                   let h = three-at-least _ _ (w .2 .ensures .0) (w .3 .left) (w .4 .left) (w .5 .left) in
-                  let short : lengthOf (blockAt t at) ≡ length (blockAt t at) → ⊥ = λ e. omega (arith, e, says-at t at false (omega arith), w .2 .ensures .0, ap length (w .1 .ensures .0), w .8 .taken) in
+                  let short : lengthOf (blockAt t at) ≡ length (blockAt t at) → ⊥ = λ e. omega (arith, e, says-at t at [] (omega arith), w .2 .ensures .0, ap length (w .1 .ensures .0), w .8 .taken) in
                   harmed _ 16 _ _ (w .9) (λ e. omega arith) (damage (omega arith) 16 (cut-short at _ (blockAt t at) (not-two t at h) short))
             ]
           ]
@@ -216,7 +214,7 @@ chain-less c = search needs
 chain-again : tie.Need-chain-again Inv-loop μ-loop Inv-chain μ-chain
 chain-again c =
     let i = c .before .before .before .before .before .chain .inv in
-    (i .0, filler (c .before .before .before .before .before .before .before .args .tag .now) _ _ _ _ _ (i .1) (sym (c .before .before .byte-at .ensures .0) ∙ c .if2 .taken))
+    (i .0, filler (c .before .before .before .before .before .before .before .args .tag .now) _ _ _ _ (i .1) (sym (c .before .before .byte-at .ensures .0) ∙ c .if2 .taken))
 
 id-of-requires : tie.Need-id-of-requires Inv-loop μ-loop Inv-chain μ-chain
 id-of-requires c κs = search needs
@@ -264,8 +262,8 @@ chain-again-2 c =
     let n = sym (size j) in
     let next = ap (λ (k : ℕ). turn j .chain .at + k) n in (
       unharmed d,
-      ⊎-elim (λ w. moved (tag j) next (sym (w .1)) (n ∙ sym (w .2)) (sym (w .3)) (sym (w .4)) (with-library d (w .0 .taken)))
-          (λ w. moved (tag j) next (sym (w .1)) (sym (w .2)) (sym (w .3)) (ap (λ (k : ℕ). turn j .chain .size + k) n ∙ sym (w .4)) (with-other d (w .0 .left))) (c .if8 .came),
+      ⊎-elim (λ w. moved (tag j) next (ap (from (turn j .chain .at)) n ∙ sym (w .1)) (sym (w .2)) (sym (w .3)) (with-library d (w .0 .taken)))
+          (λ w. moved (tag j) next (sym (w .1)) (sym (w .2)) (ap (λ (k : ℕ). turn j .chain .size + k) n ∙ sym (w .3)) (with-other d (w .0 .left))) (c .if8 .came),
     )
 
 returns : tie.Need-returns Inv-loop μ-loop Inv-chain μ-chain

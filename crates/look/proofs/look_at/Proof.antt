@@ -6,12 +6,9 @@ use borrow.Author.Needs.{needs}
 use Rattle.format.specs.Answers.{plain, placed, got, refused, need, inOrder}
 use Rattle.format.proofs.Answers.{first-ok, first-no, next-ok, none-ok, passed-no, refused-on}
 use Rattle.format.specs.Numbers.{stageGiven, refusalOf}
-use Rattle.format.specs.Pieces.{Held}
-use Rattle.format.specs.Chain.{libraryBlock}
-use Rattle.format.specs.Reading.{blocksIn, agree}
+use Rattle.format.specs.Reading.{agree}
 use Rattle.chain.specs.Survey.{surveyGiven}
 use Rattle.chain.proofs.Laws.{Surveyed, survey-whole, survey-refused}
-use Rattle.look.specs.Row.{from}
 use Rattle.look.specs.Looking.{basicJudged, partsOn, fieldsGiven, FieldsOf}
 use Rattle.look.specs.View.{viewIn, looking}
 use Rattle.look.proofs.Steps as steps
@@ -31,12 +28,9 @@ begun c = sym (c .before .before .basic-stage .ensures) ∙ ap stageGiven (c .en
 abbrev past-basic : tie.After-known-told → tie.After-enum-told
 past-basic c = c .before .before .before .before
 
-whole : (c : tie.After-known-told) → let g = c .before .survey .given .0 in Surveyed (at-start (past-basic c) .args .tag .now) (g .0) (g .1 .0) (g .1 .1 .0) (g .1 .1 .1 .0) (g .1 .1 .1 .1 .0)
-whole c = survey-whole _ _ _ _ _ _ (sym (c .before .before .before .survey-of .ensures) ∙ ap surveyGiven (c .before .survey .given .1))
-
-block : (c : tie.After-known-told)
-    → let t = at-start (past-basic c) .args .tag .now in Held t (from (c .before .survey .given .0 .0) (c .before .survey .given .0 .1 .0)) (libraryBlock (blocksIn t))
-block c = let v = whole c in record { inside = v .inside; is = v .library }
+whole : (c : tie.After-known-told) → let g = c .before .survey .given .0 in
+    Surveyed (at-start (past-basic c) .args .tag .now) (record { library = g .0; count = g .1 .0; size = g .1 .1 .0; end = g .1 .1 .1 .0 })
+whole c = survey-whole _ _ (sym (c .before .before .before .survey-of .ensures) ∙ ap surveyGiven (c .before .survey .given .1))
 
 -- past 6
 abbrev past-survey : tie.After-known-told2 → tie.After-known-told
@@ -94,7 +88,7 @@ look-at-spec =
     tie.close
     (tie.spec (λ c κs. search needs) (λ c. search needs) (λ c. search needs) (λ c κs. search needs) returns (λ c κs. search needs)
     (λ c. search needs) (λ c. search needs) (λ c κs. search needs) returns-2
-    (λ c κs. let b = past-basic c in (begun-size (at-start b .args .tag .now) (begun b), block c)) (λ c. search needs) (λ c. search needs)
+    (λ c κs. let b = past-basic c in (begun-size (at-start b .args .tag .now) (begun b), whole c .library)) (λ c. search needs) (λ c. search needs)
     (λ c κs. search needs) returns-3 (λ c κs. found c) (λ c. search needs) (λ c. search needs) (λ c κs. search needs) returns-4
-    (λ c κs. let f = past-fields (c .before .before .before) in row-lies _ (from _ _) (block (past-survey f)) _ _ _ (found f))
+    (λ c κs. let f = past-fields (c .before .before .before) in row-lies _ _ (whole (past-survey f) .library) _ _ _ (found f))
     (λ c κs. let f = past-fields (c .before .before .before .before) in omega (arith, whole (past-survey f) .room, found f .sized .most)) returns-5)

@@ -9,7 +9,8 @@ use borrow.Author.Tests.{eq-eqb, ne-eqb}
 use Rattle.format.specs.declared.Part.{Part}
 use Rattle.fields.specs.declared.OwnerParts.{OwnerParts}
 use Rattle.fields.specs.declared.LibraryParts.{LibraryParts}
-use Rattle.look.specs.Row.{from, nowhere, isilBytes, isilBy, alternativeOwnerBy, stead, IsilLies, OwnerHeld}
+use Rattle.format.specs.Pieces.{from, nowhere}
+use Rattle.look.specs.Row.{isilBytes, isilBy, alternativeOwnerBy, stead, IsilLies, OwnerHeld}
 use Rattle.look.proofs.owner.hold_owner.Statement.{statement}
 use Rattle.look.proofs.owner.hold_owner.Tie as tie
 

@@ -11,10 +11,10 @@ use Rattle.look.proofs.row.one_piece.Statement.{statement}
 use Rattle.look.proofs.row.one_piece.Tie as tie
 
 -- block 1 is the first block, or there is none
-first : (c : tie.Joined2) → let a = c .before .before .args in eqb (a .length) 0 || eqb (a .library) 34 ≡ true
+first : (c : tie.Joined2) → let a = c .before .before .before .args in eqb (a .library .len) 0 || eqb (a .library .at) 34 ≡ true
 first c =
-    let a = c .before .before .args in
-    ⊎-elim (λ w. or-r (eqb (a .length) 0) _ (not-false _ (w .1 .left))) (λ w. rw (w .left)) (c .if2 .came)
+    let a = c .before .before .before .args in
+    ⊎-elim (λ w. or-r (eqb (a .library .len) 0) _ (not-false _ (w .2 .left))) (λ w. rw (w .left)) (c .if2 .came)
 
 nowhere-requires : tie.Need-nowhere-requires
 nowhere-requires c κs = search needs
@@ -31,15 +31,15 @@ returns c = rw (eq-eqb _ 0 (c .before .if1 .taken)) (c .nowhere .ensures)
 
 returns-2 : tie.Need-returns-2
 unfolding pieceBy
-returns-2 c = rw (ne-eqb _ 0 (c .before .before .before .if1 .left), ne-eqb _ 0 (c .before .before .if2 .taken), not-true (eqb _ 34) (c .before .if3 .taken)) (c .nowhere2 .ensures)
+returns-2 c = rw (ne-eqb _ 0 (c .before .before .before .before .before .if1 .left), ne-eqb _ 0 (c .before .before .before .if2 .taken), not-true (eqb _ 34) (c .before .if3 .taken)) (c .nowhere2 .ensures)
 
 returns-3 : tie.Need-returns-3
 unfolding pieceBy
-returns-3 c = rw (ne-eqb _ 0 (c .before .before .before .if1 .left), first (c .before .before), ne-eqb _ _ (c .before .if4 .taken)) (c .nowhere3 .ensures)
+returns-3 c = rw (ne-eqb _ 0 (c .before .before .before .before .before .if1 .left), first (c .before .before .before), ne-eqb _ _ (c .before .if4 .taken)) (c .nowhere3 .ensures)
 
 returns-4 : tie.Need-returns-4
 unfolding pieceBy
-returns-4 c = rw (ne-eqb _ 0 (c .before .before .if1 .left), first (c .before), eq-eqb _ _ (c .if4 .left)) refl
+returns-4 c = rw (ne-eqb _ 0 (c .before .before .before .before .before .if1 .left), first (c .before .before .before), eq-eqb _ _ (c .before .if4 .left)) refl
 
 pub one-piece-spec : {M : Type 1} → statement M
 one-piece-spec = tie.close (tie.spec nowhere-requires returns nowhere-requires-2 returns-2 (λ c. search needs) (λ c. search needs) nowhere-requires-3 returns-3 (λ c. search needs) returns-4)
