@@ -1,15 +1,17 @@
--- What the loops of this crate know at each turn, and how a turn keeps it: the first of a byte is sought, the 00 at the end are left out.
+-- What the loops of this crate know at each turn, and how a turn keeps it: the first of a byte is sought, the fields are found, the 00 at the end are left out.
 use mathlib.Core.Path.{_≡_, refl, sym, ap, _∙_}
 use Prim.Native.Nat.{ℕ, suc, _+_, _-_, _≤_, _<_}
 use native.Mathlib.Omega.{arith}
-use native.Mathlib.Nat.{zero-add}
+use native.Mathlib.Nat.{zero-add, sub-zero}
 use native.Mathlib.Numerals.{add-one}
-use mathlib.Core.List.{List, [], _∷_, _++_}
-use lib.ListN.{length, take, drop, getD, drop-of-length-le}
-use lib.Seq.{drop-cons, take-suc, take-length, length-take-le}
+use mathlib.Core.List.{List, [], _∷_, _++_, append-nil, map}
+use lib.ListN.{length, take, drop, set, getD, length-drop, length-set, drop-of-length-le}
+use lib.Seq.{drop-cons, drop-drop, take-suc, take-suc-set, take-all, take-length, length-take-le, append-snoc}
 use borrow.Author.Tests.{eq-eqb, ne-eqb}
-use Rattle.format.specs.Bytes.{trim, strip, upTo}
-use Rattle.format.proofs.Strings.{strip-append, strip-behind, trim-other}
+use Rattle.format.specs.Bytes.{trim, strip, upTo, past}
+use Rattle.format.specs.Chain.{fieldsIn, beyond}
+use Rattle.format.proofs.Strings.{up-to-length, strip-append, strip-behind, trim-other}
+use Rattle.fields.proofs.Places.{past-drop}
 
 -- ---- the first b
 
@@ -43,6 +45,37 @@ module _ (b : ℕ) (s : List ℕ) where
   pub seeking-over : (i : ℕ) → Seeking b s i → length s ≤ i → i ≡ length (upTo b s)
   unfolding upTo
   seeking-over i p h = omega (arith, p .before, ap (λ (l : List ℕ). length (upTo b l)) (drop-of-length-le s h))
+
+-- ---- the fields
+
+-- the first k of n lengths are in place; the fields that are left begin at `at`
+pub record Finding (s : List ℕ) (n : ℕ) (lens : List ℕ) (at k : ℕ) : Type 0 where
+  pub inside : at ≤ length s + k
+  pub places : length lens ≡ n
+  pub filled : take k lens ++ map length (fieldsIn (n - k) (drop at s)) ≡ map length (fieldsIn n s)
+  pub left : beyond (n - k) (drop at s) ≡ beyond n s
+
+pub finding-start : (s lens : List ℕ) → Finding s (length lens) lens 0 0
+finding-start s lens = record { inside = omega arith; places = refl; filled = rw sub-zero refl; left = rw sub-zero refl }
+
+module _ {s lens : List ℕ} {n at k : ℕ} (f : Finding s n lens at k) where
+  pub finding-on : (l : ℕ) → l ≡ length (upTo 0 (drop at s)) → k < length lens → Finding s n (set lens k l) (at + (l + 1)) (k + 1)
+  unfolding fieldsIn beyond
+  finding-on l e h =
+      let m : n - k ≡ suc (n - suc k) = omega (arith, f .places) in
+      let p : past 0 (drop at s) ≡ drop (at + (l + 1)) s = rw e (past-drop 0 (drop at s) ∙ drop-drop _ at s) in
+      record {
+        inside = omega (arith, e, up-to-length 0 (drop at s), length-drop at s, f .inside);
+        places = length-set lens k l ∙ f .places;
+        filled = rw (add-one, take-suc-set lens k l h, append-snoc, ← p, e) (rw m at (f .filled));
+        left = rw (add-one, ← p) (rw m at (f .left));
+      }
+
+  pub finding-end : length lens ≤ k → (lens ≡ map length (fieldsIn n s)) × (drop at s ≡ beyond n s)
+  unfolding fieldsIn beyond
+  finding-end h =
+      let m : n - k ≡ 0 = omega (arith, f .places) in
+      (rw (m, append-nil, take-all k lens h) at (f .filled), rw m at (f .left))
 
 -- ---- the 00 at the end
 

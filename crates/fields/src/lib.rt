@@ -2,9 +2,11 @@
 // What each answer means is said in `specs/Forms.antt`, over the definitions of `format`.
 ghost use mathlib.Core.Path.{_≡_};
 ghost use mathlib.Core.Bool.{_||_};
+ghost use mathlib.Core.List.{map};
 ghost use lib.ListN.{length, take, drop};
 ghost use Rattle.format.specs.Bytes.{isEmpty, all, strip, upTo, past};
 ghost use Rattle.format.specs.Fields.{capital, unitByte, isilOf, isil, alternative, isOwner, marked, prefixIn};
+ghost use Rattle.format.specs.Chain.{fieldsIn, beyond};
 ghost use Rattle.format.specs.Numbers.{numberOf};
 ghost use Rattle.fields.specs.declared.OwnerField.the-variants as owner;
 ghost use Rattle.fields.specs.Forms.{itemForm, ownerForm, libraryForm, itemGiven, ownerGiven, libraryGiven};
@@ -150,25 +152,19 @@ fn held(s: &[u8]) -> &[u8]
     front(s, stripped(s))
 }
 
-// The bytes before the first b: all, where there is none.
-fn up_to(s: &[u8], b: u8) -> &[u8]
-    ensures { λ r. ⌜ now r ≡ upTo b (now (s .entry)) ⌝ }
+// The fields of s, with a 00 between them: how long each is, as many as `lens` has places. Gives what follows the last separator.
+fn find_fields<'a>(s: &'a [u8], lens: &mut [usize]) -> &'a [u8]
+    ensures { λ r. ⌜ (now (lens .exit) ≡ map length (fieldsIn (length (now (lens .entry))) (now (s .entry)))) × (now r ≡ beyond (length (now (lens .entry))) (now (s .entry))) ⌝ }
 {
-    front(s, find(s, b))
-}
-
-// The bytes behind the byte at a place.
-fn behind(s: &[u8], at: usize) -> &[u8]
-    ensures { λ r. ⌜ now r ≡ drop 1 (drop at (now (s .entry))) ⌝ }
-{
-    from(from(s, at), 1)
-}
-
-// The bytes behind the first b.
-fn past(s: &[u8], b: u8) -> &[u8]
-    ensures { λ r. ⌜ now r ≡ past b (now (s .entry)) ⌝ }
-{
-    behind(s, find(s, b))
+    let mut at: usize = 0;
+    let mut k: usize = 0;
+    while k < lens.len() {
+        let n = find(from(s, at), 0);
+        lens[k] = n;
+        at += n + 1;
+        k += 1;
+    }
+    from(s, at)
 }
 
 // Is s the marker 01?
@@ -207,7 +203,8 @@ fn isil_of(prefix: &[u8], unit: &[u8]) -> bool
 pub fn isil(s: &[u8]) -> bool
     ensures { λ r. ⌜ r ≡ isil (now (s .entry)) ⌝ }
 {
-    isil_of(up_to(s, b'-'), past(s, b'-'))
+    let n = find(s, b'-');
+    isil_of(front(s, n), from(s, n + 1))
 }
 
 // Is s an alternative owner: 02 or 03, then text?
@@ -307,10 +304,10 @@ pub fn library_in(block: &[u8]) -> LibraryField
 {
     let payload = held(from(block, 4));
     let fields = from(payload, 1);
-    let item = up_to(fields, 0);
-    let behind_item = behind(fields, item.len());
-    let owner = up_to(behind_item, 0);
-    let last = behind(behind_item, owner.len());
+    let mut lens = [0usize; 2];
+    let last = find_fields(fields, &mut lens);
+    let item = front(fields, lens[0]);
+    let owner = front(from(fields, lens[0] + 1), lens[1]);
     if 1 < last.len() {
         return LibraryField::Refused(6);
     }
