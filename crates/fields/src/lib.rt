@@ -307,7 +307,7 @@ pub fn library_in(block: &[u8]) -> LibraryField
     let mut lens = [0usize; 2];
     let last = find_fields(fields, &mut lens);
     let item = front(fields, lens[0]);
-    let owner = front(from(fields, lens[0] + 1), lens[1]);
+    let owner = front(from(fields, item.len() + 1), lens[1]);
     if 1 < last.len() {
         return LibraryField::Refused(6);
     }

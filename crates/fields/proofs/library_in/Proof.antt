@@ -1,117 +1,104 @@
+-- Block 1 is judged by its parts, once they are in hand.
+use mathlib.Core.Path.{_≡_, sym, ap, ap₂, _∙_}
+use Prim.Native.Nat.{ℕ, _+_}
+use mathlib.Core.Bool.{Bool, true, _&&_, _||_}
+use mathlib.Core.List.{List, map}
 use borrow.Author.Needs.{needs}
+use borrow.Author.Tests.{le-leb, lt-leb, not-true, not-false}
+use lib.Dec.{leb}
+use lib.ListN.{length, take, drop, getD}
+use Rattle.format.specs.Bytes.{if_then_else_, isEmpty, strip, upTo, past}
+use Rattle.format.specs.Text.{text}
+use Rattle.format.specs.Fields.{isOwner}
+use Rattle.format.specs.Chain.{payload, fieldsIn, beyond, libraryIn, goodLibrary}
+use Rattle.fields.specs.declared.LibraryField.{LibraryField}
+use Rattle.fields.specs.declared.LibraryField.the-variants.{Good, Refused}
+use Rattle.fields.specs.Forms.{libraryParts, libraryForm}
+use Rattle.fields.proofs.Places.{up-to-take, past-drop}
 use Rattle.fields.proofs.library_in.Statement.{statement}
 use Rattle.fields.proofs.library_in.Tie as tie
-use Rattle.fields.proofs.library_in.Reads as reads
-use Rattle.fields.proofs.library_in.Lts as lts
-use Rattle.fields.proofs.find_fields.Reads as find-fields-reads
-use Rattle.fields.proofs.from.Reads as from-reads
-use Rattle.fields.proofs.front.Reads as front-reads
-use Rattle.fields.proofs.held.Reads as held-reads
-use Rattle.fields.proofs.owner_stands.Reads as owner-stands-reads
-use Rattle.strings.proofs.byte_at.Reads as byte-at-reads
-use Rattle.text.proofs.is_text.Reads as is-text-reads
 
--- src/lib.rt:305:24
-from-requires : tie.Need-from-requires
-from-requires c κs = search needs
+-- the form by the payload, item, owner and last field
+abbrev formBy : List ℕ → List ℕ → List ℕ → List ℕ → LibraryField
+formBy p item owner last =
+    if leb (length last) 1 && text item && (isEmpty owner || isOwner owner)
+    then Good (record { media = getD p 0 0; item = length item; owner = length owner; usage = getD last 0 0 })
+    else Refused 6
 
--- src/lib.rt:305:9
-held-requires : tie.Need-held-requires
-held-requires c κs = search needs
+by-parts : (b : List ℕ) {tail p fields item owner last : List ℕ} → tail ≡ drop 4 b → p ≡ strip tail → fields ≡ drop 1 p
+    → item ≡ upTo 0 fields → owner ≡ upTo 0 (past 0 fields) → last ≡ beyond 2 fields → libraryForm b ≡ formBy p item owner last
+unfolding libraryForm libraryParts goodLibrary libraryIn fieldsIn payload
+by-parts b t p f i o l = rw (l, o, i, f, p, t)
 
--- src/lib.rt:306:9
-from-requires-2 : tie.Need-from-requires-2
-from-requires-2 c κs = search needs
+-- item and owner by their lengths
+module _ (s : List ℕ) {lens item : List ℕ} (l : lens ≡ map length (fieldsIn 2 s)) (i : item ≡ take (getD lens 0 0) s) where
+  item-is : item ≡ upTo 0 s
+  unfolding fieldsIn
+  item-is = i ∙ ap (λ (n : List ℕ). take (getD n 0 0) s) l ∙ sym (up-to-take 0 s)
 
--- src/lib.rt:308:36
-slice-aggregate-find-fields : tie.Need-slice-aggregate-find-fields
-slice-aggregate-find-fields c = search needs
+  owner-is : {more owner : List ℕ} → more ≡ drop (length item + 1) s → owner ≡ take (getD lens 1 0) more → owner ≡ upTo 0 (past 0 s)
+  unfolding fieldsIn
+  owner-is m o =
+      o ∙ ap₂ (λ (n t : List ℕ). take (getD n 1 0) t) l (m ∙ ap (λ (t : List ℕ). drop (length t + 1) s) item-is ∙ sym (past-drop 0 s))
+      ∙ sym (up-to-take 0 (past 0 s))
 
--- src/lib.rt:308:9
-find-fields-requires : tie.Need-find-fields-requires
-find-fields-requires c κs = search needs
+stands : {a b c : Bool} {m n m′ n′ i o : ℕ} → a ≡ true → b ≡ true → c ≡ true → m ≡ m′ → n ≡ n′
+    → (if a && b && c then Good (record { media = m′; item = i; owner = o; usage = n′ }) else Refused 6)
+    ≡ Good (record { media = m; item = i; owner = o; usage = n })
+stands a b c m n = rw (a, b, c, m, n)
 
--- src/lib.rt:309:30
-array-read-front : tie.Need-array-read-front
-array-read-front c = search needs
+in-hand : (c : tie.After-front2)
+    → let i = c .before .before in
+    let l = i .before .before in
+    let p = l .before .before .before in
+    libraryForm (p .before .before .before .args .block .now)
+    ≡ formBy (p .held .result .now) (i .front .result .now) (c .front2 .result .now) (l .find-fields .result .now)
+in-hand c =
+    let i = c .before .before in
+    let l = i .before .before in
+    let f = l .before .before in
+    let p = f .before in
+    let e = l .find-fields .ensures in
+    by-parts (p .before .before .before .args .block .now) (p .before .from .ensures) (p .held .ensures) (f .from2 .ensures)
+    (item-is _ (e .0) (i .front .ensures)) (owner-is _ (e .0) (i .front .ensures) (c .before .from3 .ensures) (c .front2 .ensures)) (e .1)
 
--- src/lib.rt:309:9
-front-requires : tie.Need-front-requires
-front-requires c κs = search needs
-
--- src/lib.rt:310:36
-array-read-from : tie.Need-array-read-from
-array-read-from c = search needs
-
--- src/lib.rt:310:36
-add-from : tie.Need-add-from
-add-from c = ?
-
--- src/lib.rt:310:23
-from-requires-3 : tie.Need-from-requires-3
-from-requires-3 c κs = search needs
-
--- src/lib.rt:310:50
-array-read-front-2 : tie.Need-array-read-front-2
-array-read-front-2 c = search needs
-
--- src/lib.rt:310:9
-front-requires-2 : tie.Need-front-requires-2
-front-requires-2 c κs = search needs
-
--- src/lib.rt:312:9
 returns : tie.Need-returns
-returns c = ?
+returns c = sym (in-hand (c .before) ∙ simp (lt-leb _ _ (c .if1 .taken)))
 
--- src/lib.rt:314:9
-is-text-requires : tie.Need-is-text-requires
-is-text-requires c κs = search needs
-
--- src/lib.rt:315:9
 returns-2 : tie.Need-returns-2
-returns-2 c = ?
+returns-2 c =
+    let t = c .before in
+    sym (in-hand (t .before .before)
+    ∙ simp (le-leb _ _ (t .before .if1 .left), sym (t .is-text .ensures), not-true (t .is-text .result) (c .if2 .taken)))
 
--- src/lib.rt:317:9
-owner-stands-requires : tie.Need-owner-stands-requires
-owner-stands-requires c κs = search needs
-
--- src/lib.rt:318:9
 returns-3 : tie.Need-returns-3
-returns-3 c = ?
+returns-3 c =
+    let o = c .before in
+    let t = o .before .before in
+    sym (in-hand (t .before .before)
+    ∙ simp (
+      le-leb _ _ (t .before .if1 .left),
+      sym (t .is-text .ensures),
+      not-false (t .is-text .result) (o .before .if2 .left),
+      sym (o .owner-stands .ensures),
+      not-true (o .owner-stands .result) (c .if3 .taken),
+    ))
 
--- src/lib.rt:321:16
-byte-at-requires : tie.Need-byte-at-requires
-byte-at-requires c κs = search needs
-
--- src/lib.rt:324:16
-byte-at-requires-2 : tie.Need-byte-at-requires-2
-byte-at-requires-2 c κs = search needs
-
--- src/lib.rt:302:1
 returns-4 : tie.Need-returns-4
-returns-4 c = ?
+returns-4 c =
+    let o = c .before .before .before in
+    let t = o .before .before in
+    sym (in-hand (t .before .before)
+    ∙ stands
+    (le-leb _ 1 (t .before .if1 .left))
+    (sym (t .is-text .ensures) ∙ not-false (t .is-text .result) (o .before .if2 .left))
+    (sym (o .owner-stands .ensures) ∙ not-false (o .owner-stands .result) (c .before .before .if3 .left))
+    (c .before .byte-at .ensures)
+    (c .byte-at2 .ensures))
 
 pub library-in-spec : {M : Type 1} → statement M
 library-in-spec =
     tie.close
-    (tie.spec
-    from-requires
-    held-requires
-    from-requires-2
-    slice-aggregate-find-fields
-    find-fields-requires
-    array-read-front
-    front-requires
-    array-read-from
-    add-from
-    from-requires-3
-    array-read-front-2
-    front-requires-2
-    returns
-    is-text-requires
-    returns-2
-    owner-stands-requires
-    returns-3
-    byte-at-requires
-    byte-at-requires-2
-    returns-4)
+    (tie.spec (λ c κs. search needs) (λ c κs. search needs) (λ c κs. search needs) (λ c. search needs) (λ c κs. search needs)
+    (λ c. search needs) (λ c κs. search needs) (λ c. search needs) (λ c κs. search needs) (λ c. search needs) (λ c κs. search needs) returns
+    (λ c κs. search needs) returns-2 (λ c κs. search needs) returns-3 (λ c κs. search needs) (λ c κs. search needs) returns-4)
