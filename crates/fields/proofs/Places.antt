@@ -106,7 +106,7 @@ front-lies b i s e = record { is = sym e; inside = omega (arith, front-within s 
 unfoldable pub fieldAt : ℕ → ℕ → List ℕ → ℕ
 fieldAt i zero ls = i
 fieldAt i (suc k) [] = i
-fieldAt i (suc k) (l ∷ ls) = fieldAt (i + (l + 1)) k ls
+fieldAt i (suc k) (l ∷ ls) = fieldAt (i + 1 + l) k ls
 
 -- the fields of a content at byte i stand there
 pub field-lies : (n k i : ℕ) (s b : List ℕ) → Front s (drop i b)
@@ -115,8 +115,9 @@ unfolding fieldsIn fieldAt
 field-lies zero k i s b e = front-lies b _ [] refl
 field-lies (suc n) zero i s b e = front-lies b i (upTo 0 s) (front-trans (upTo 0 s) s (drop i b) (up-to-take 0 s) e)
 field-lies (suc n) (suc k) i s b e =
-    let l : ℕ = length (upTo 0 s) + 1 in
-    field-lies n k (i + l) (past 0 s) b (rw (past-drop 0 s, ← (drop-drop l i b)) (front-drop l s (drop i b) e))
+    let l : ℕ = length (upTo 0 s) in
+    let next : i + (l + 1) ≡ i + 1 + l = omega arith in
+    field-lies n k (i + 1 + l) (past 0 s) b (rw (past-drop 0 s, ← next, ← (drop-drop (l + 1) i b)) (front-drop (l + 1) s (drop i b) e))
 
 -- ---- each form is its parts, or refusal 6
 
@@ -269,7 +270,7 @@ owner-stands f g = go (leb (getD (strip f) 2 0) 3) refl
 pub record LibraryStands (b : List ℕ) (p : LibraryParts) : Type 0 where
   pub media : let m : ℕ = libraryIn b .media in Within b 4 (if eqb (p .media) 0 then 0 else 1) (if eqb m 0 then [] else m ∷ [])
   pub item : Within b 5 (p .item) (libraryIn b .item)
-  pub owner : Within b (5 + (p .item + 1)) (p .owner) (libraryIn b .owner)
+  pub owner : Within b (6 + p .item) (p .owner) (libraryIn b .owner)
   pub usage : libraryIn b .usage ≡ p .usage
 
 module _ (b : List ℕ) where
