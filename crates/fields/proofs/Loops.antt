@@ -48,30 +48,30 @@ module _ (b : ℕ) (s : List ℕ) where
 
 -- ---- the fields
 
--- the first k of n lengths are in place; the fields that are left begin at `at`
-pub record Finding (s : List ℕ) (n : ℕ) (lens : List ℕ) (at k : ℕ) : Type 0 where
-  pub inside : at ≤ length s + k
+-- the first k of n lengths are in place, the other fields are those of the rest
+pub record Finding (s : List ℕ) (n : ℕ) (lens rest : List ℕ) (k : ℕ) : Type 0 where
+  pub inside : length rest ≤ length s
   pub places : length lens ≡ n
-  pub filled : take k lens ++ map length (fieldsIn (n - k) (drop at s)) ≡ map length (fieldsIn n s)
-  pub left : beyond (n - k) (drop at s) ≡ beyond n s
+  pub filled : take k lens ++ map length (fieldsIn (n - k) rest) ≡ map length (fieldsIn n s)
+  pub left : beyond (n - k) rest ≡ beyond n s
 
-pub finding-start : (s lens : List ℕ) → Finding s (length lens) lens 0 0
+pub finding-start : (s lens : List ℕ) → Finding s (length lens) lens s 0
 finding-start s lens = record { inside = omega arith; places = refl; filled = rw sub-zero refl; left = rw sub-zero refl }
 
-module _ {s lens : List ℕ} {n at k : ℕ} (f : Finding s n lens at k) where
-  pub finding-on : (l : ℕ) → l ≡ length (upTo 0 (drop at s)) → k < length lens → Finding s n (set lens k l) (at + (l + 1)) (k + 1)
+module _ {s lens rest : List ℕ} {n k : ℕ} (f : Finding s n lens rest k) where
+  pub finding-on : (l : ℕ) (more : List ℕ) → l ≡ length (upTo 0 rest) → more ≡ drop (l + 1) rest → k < length lens → Finding s n (set lens k l) more (k + 1)
   unfolding fieldsIn beyond
-  finding-on l e h =
+  finding-on l more e d h =
       let m : n - k ≡ suc (n - suc k) = omega (arith, f .places) in
-      let p : past 0 (drop at s) ≡ drop (at + (l + 1)) s = rw e (past-drop 0 (drop at s) ∙ drop-drop _ at s) in
+      let p : more ≡ past 0 rest = rw e at d ∙ sym (past-drop 0 rest) in
       record {
-        inside = omega (arith, e, up-to-length 0 (drop at s), length-drop at s, f .inside);
+        inside = omega (arith, ap length d, length-drop (l + 1) rest, f .inside);
         places = length-set lens k l ∙ f .places;
-        filled = rw (add-one, take-suc-set lens k l h, append-snoc, ← p, e) (rw m at (f .filled));
-        left = rw (add-one, ← p) (rw m at (f .left));
+        filled = rw (add-one, take-suc-set lens k l h, append-snoc, p, e) (rw m at (f .filled));
+        left = rw (add-one, p) (rw m at (f .left));
       }
 
-  pub finding-end : length lens ≤ k → (lens ≡ map length (fieldsIn n s)) × (drop at s ≡ beyond n s)
+  pub finding-end : length lens ≤ k → (lens ≡ map length (fieldsIn n s)) × (rest ≡ beyond n s)
   unfolding fieldsIn beyond
   finding-end h =
       let m : n - k ≡ 0 = omega (arith, f .places) in

@@ -4,7 +4,7 @@ ghost use mathlib.Core.Path.{_≡_};
 ghost use mathlib.Core.Bool.{_||_};
 ghost use mathlib.Core.List.{map};
 ghost use lib.ListN.{length, take, drop};
-ghost use Rattle.format.specs.Bytes.{isEmpty, all, strip, upTo, past};
+ghost use Rattle.format.specs.Bytes.{isEmpty, all, strip, upTo};
 ghost use Rattle.format.specs.Fields.{capital, unitByte, isilOf, isil, alternative, isOwner, marked, prefixIn};
 ghost use Rattle.format.specs.Chain.{fieldsIn, beyond};
 ghost use Rattle.format.specs.Numbers.{numberOf};
@@ -156,15 +156,16 @@ fn held(s: &[u8]) -> &[u8]
 fn find_fields<'a>(s: &'a [u8], lens: &mut [usize]) -> &'a [u8]
     ensures { λ r. ⌜ (now (lens .exit) ≡ map length (fieldsIn (length (now (lens .entry))) (now (s .entry)))) × (now r ≡ beyond (length (now (lens .entry))) (now (s .entry))) ⌝ }
 {
-    let mut at: usize = 0;
+    let mut rest = s;
     let mut k: usize = 0;
     while k < lens.len() {
-        let n = find(from(s, at), 0);
+        let n = find(rest, 0);
         lens[k] = n;
-        at += n + 1;
+        let behind = from(rest, n + 1);
+        rest = behind;
         k += 1;
     }
-    from(s, at)
+    rest
 }
 
 // Is s the marker 01?
