@@ -4,10 +4,11 @@ use Prim.Native.Nat.{ℕ, suc, _+_, _-_, _≤_, _<_}
 use native.Mathlib.Omega.{arith}
 use native.Mathlib.Nat.{zero-add, sub-zero}
 use native.Mathlib.Numerals.{add-one}
+use mathlib.Core.Bool.{true, false}
 use mathlib.Core.List.{List, [], _∷_, _++_, append-nil, map}
 use lib.ListN.{length, take, drop, set, getD, length-drop, length-set, drop-of-length-le}
 use lib.Seq.{drop-cons, drop-drop, take-suc, take-suc-set, take-all, take-length, length-take-le, append-snoc}
-use borrow.Author.Tests.{eq-eqb, ne-eqb}
+use lib.Dec.{eqb}
 use Rattle.format.specs.Bytes.{trim, strip, upTo, past}
 use Rattle.format.specs.Chain.{fieldsIn, beyond}
 use Rattle.format.proofs.Strings.{up-to-length, strip-append, strip-behind, trim-other}
@@ -16,58 +17,43 @@ use Rattle.fields.proofs.Places.{past-drop}
 -- ---- the first b
 
 -- none of the bytes before i is b
-pub record Seeking (b : ℕ) (s : List ℕ) (i : ℕ) : Type 0 where
-  pub inside : i ≤ length s
-  pub before : i + length (upTo b (drop i s)) ≡ length (upTo b s)
+abbrev pub Seeking : ℕ → List ℕ → ℕ → Type 0
+Seeking b s i = take i s ++ upTo b (drop i s) ≡ upTo b s
 
-module _ (b : ℕ) (s : List ℕ) where
-  pub seeking-start : Seeking b s 0
-  seeking-start = record { inside = omega arith; before = zero-add (length (upTo b s)) }
-
-  seen : (i : ℕ) → i < length s → getD s i 0 ≡ b → upTo b (drop i s) ≡ []
+module _ (b : ℕ) (s : List ℕ) (i : ℕ) (p : Seeking b s i) where
+  pub seeking-on : i < length s → eqb (getD s i 0) b ≡ false → Seeking b s (i + 1)
   unfolding upTo
-  seen i h e = rw (drop-cons s i 0 h, eq-eqb (getD s i 0) b e) refl
+  seeking-on h e = rw (add-one, take-suc s i 0 h, append-snoc) (rw (drop-cons s i 0 h, e) at p)
 
-  unseen : (i : ℕ) → i < length s → (getD s i 0 ≡ b → ⊥) → upTo b (drop i s) ≡ getD s i 0 ∷ upTo b (drop (suc i) s)
+  pub seeking-found : i < length s → eqb (getD s i 0) b ≡ true → take i s ≡ upTo b s
   unfolding upTo
-  unseen i h e = rw (drop-cons s i 0 h, ne-eqb (getD s i 0) b e) refl
+  seeking-found h e = rw (drop-cons s i 0 h, e, append-nil) at p
 
-  pub seeking-on : (i : ℕ) → Seeking b s i → i < length s → (getD s i 0 ≡ b → ⊥) → Seeking b s (i + 1)
-  seeking-on i p h e =
-      record {
-        inside = omega arith;
-        before = rw add-one (omega (arith, p .before, ap length (unseen i h e)));
-      }
-
-  pub seeking-found : (i : ℕ) → Seeking b s i → i < length s → getD s i 0 ≡ b → i ≡ length (upTo b s)
-  seeking-found i p h e = omega (arith, p .before, ap length (seen i h e))
-
-  pub seeking-over : (i : ℕ) → Seeking b s i → length s ≤ i → i ≡ length (upTo b s)
+  pub seeking-over : length s ≤ i → take i s ≡ upTo b s
   unfolding upTo
-  seeking-over i p h = omega (arith, p .before, ap (λ (l : List ℕ). length (upTo b l)) (drop-of-length-le s h))
+  seeking-over h = rw (drop-of-length-le s h, append-nil) at p
 
 -- ---- the fields
 
 -- the first k of n lengths are in place, the other fields are those of the rest
 pub record Finding (s : List ℕ) (n : ℕ) (lens rest : List ℕ) (k : ℕ) : Type 0 where
-  pub inside : length rest ≤ length s
   pub places : length lens ≡ n
   pub filled : take k lens ++ map length (fieldsIn (n - k) rest) ≡ map length (fieldsIn n s)
   pub left : beyond (n - k) rest ≡ beyond n s
 
 pub finding-start : (s lens : List ℕ) → Finding s (length lens) lens s 0
-finding-start s lens = record { inside = omega arith; places = refl; filled = rw sub-zero refl; left = rw sub-zero refl }
+finding-start s lens = record { places = refl; filled = rw sub-zero refl; left = rw sub-zero refl }
 
 module _ {s lens rest : List ℕ} {n k : ℕ} (f : Finding s n lens rest k) where
-  pub finding-on : (l : ℕ) (more : List ℕ) → l ≡ length (upTo 0 rest) → more ≡ drop (l + 1) rest → k < length lens → Finding s n (set lens k l) more (k + 1)
+  pub finding-on : (field more : List ℕ) → field ≡ upTo 0 rest → more ≡ drop (length field + 1) rest → k < length lens
+      → Finding s n (set lens k (length field)) more (k + 1)
   unfolding fieldsIn beyond
-  finding-on l more e d h =
+  finding-on field more e d h =
       let m : n - k ≡ suc (n - suc k) = omega (arith, f .places) in
       let p : more ≡ past 0 rest = rw e at d ∙ sym (past-drop 0 rest) in
       record {
-        inside = omega (arith, ap length d, length-drop (l + 1) rest, f .inside);
-        places = length-set lens k l ∙ f .places;
-        filled = rw (add-one, take-suc-set lens k l h, append-snoc, p, e) (rw m at (f .filled));
+        places = length-set lens k (length field) ∙ f .places;
+        filled = rw (add-one, take-suc-set lens k (length field) h, append-snoc, p, e) (rw m at (f .filled));
         left = rw (add-one, p) (rw m at (f .left));
       }
 

@@ -102,20 +102,6 @@ fn units(s: &[u8]) -> bool
     true
 }
 
-// How many bytes stand before the first b: all, where there is none.
-fn find(s: &[u8], b: u8) -> usize
-    ensures { λ r. ⌜ r ≡ length (upTo b (now (s .entry))) ⌝ }
-{
-    let mut i: usize = 0;
-    while i < s.len() {
-        if s[i] == b {
-            return i;
-        }
-        i += 1;
-    }
-    i
-}
-
 // The length of s without the 00 bytes at its end.
 fn stripped(s: &[u8]) -> usize
     ensures { λ r. ⌜ r ≡ length (strip (now (s .entry))) ⌝ }
@@ -152,6 +138,17 @@ fn held(s: &[u8]) -> &[u8]
     front(s, stripped(s))
 }
 
+// The bytes before the first b: all, where there is none.
+fn up_to(s: &[u8], b: u8) -> &[u8]
+    ensures { λ r. ⌜ now r ≡ upTo b (now (s .entry)) ⌝ }
+{
+    let mut i: usize = 0;
+    while i < s.len() && s[i] != b {
+        i += 1;
+    }
+    front(s, i)
+}
+
 // The fields of s, with a 00 between them: how long each is, as many as `lens` has places. Gives what follows the last separator.
 fn find_fields<'a>(s: &'a [u8], lens: &mut [usize]) -> &'a [u8]
     ensures { λ r. ⌜ (now (lens .exit) ≡ map length (fieldsIn (length (now (lens .entry))) (now (s .entry)))) × (now r ≡ beyond (length (now (lens .entry))) (now (s .entry))) ⌝ }
@@ -159,9 +156,9 @@ fn find_fields<'a>(s: &'a [u8], lens: &mut [usize]) -> &'a [u8]
     let mut rest = s;
     let mut k: usize = 0;
     while k < lens.len() {
-        let n = find(rest, 0);
-        lens[k] = n;
-        let behind = from(rest, n + 1);
+        let field = up_to(rest, 0);
+        lens[k] = field.len();
+        let behind = from(rest, field.len() + 1);
         rest = behind;
         k += 1;
     }
@@ -204,8 +201,8 @@ fn isil_of(prefix: &[u8], unit: &[u8]) -> bool
 pub fn isil(s: &[u8]) -> bool
     ensures { λ r. ⌜ r ≡ isil (now (s .entry)) ⌝ }
 {
-    let n = find(s, b'-');
-    isil_of(front(s, n), from(s, n + 1))
+    let prefix = up_to(s, b'-');
+    isil_of(prefix, from(s, prefix.len() + 1))
 }
 
 // Is s an alternative owner: 02 or 03, then text?
