@@ -1,5 +1,5 @@
 -- Block 1 is judged by its parts, once they are in hand.
-use mathlib.Core.Path.{_≡_, sym, ap, ap₂, _∙_}
+use mathlib.Core.Path.{_≡_, sym, _∙_}
 use Prim.Native.Nat.{ℕ, _+_}
 use mathlib.Core.Bool.{Bool, true, _&&_, _||_}
 use mathlib.Core.List.{List, map}
@@ -7,7 +7,7 @@ use borrow.Author.Needs.{needs}
 use borrow.Author.Tests.{le-leb, lt-leb, not-true, not-false}
 use lib.Dec.{leb}
 use lib.ListN.{length, take, drop, getD}
-use Rattle.format.specs.Bytes.{if_then_else_, isEmpty, strip, upTo, past}
+use Rattle.format.specs.Bytes.{if_then_else_, isEmpty, strip, past}
 use Rattle.format.specs.Text.{text}
 use Rattle.format.specs.Fields.{isOwner}
 use Rattle.format.specs.Chain.{payload, fieldsIn, beyond, libraryIn, goodLibrary}
@@ -25,22 +25,13 @@ formBy p item owner last =
     then Good (record { media = getD p 0 0; item = length item; owner = length owner; usage = getD last 0 0 })
     else Refused 6
 
-by-parts : (b : List ℕ) {tail p fields item owner last : List ℕ} → tail ≡ drop 4 b → p ≡ strip tail → fields ≡ drop 1 p
-    → item ≡ upTo 0 fields → owner ≡ upTo 0 (past 0 fields) → last ≡ beyond 2 fields → libraryForm b ≡ formBy p item owner last
-unfolding libraryForm libraryParts goodLibrary libraryIn fieldsIn payload
-by-parts b t p f i o l = rw (l, o, i, f, p, t)
-
 -- item and owner by their lengths
-module _ (s : List ℕ) {lens item : List ℕ} (l : lens ≡ map length (fieldsIn 2 s)) (i : item ≡ take (getD lens 0 0) s) where
-  item-is : item ≡ upTo 0 s
-  unfolding fieldsIn
-  item-is = i ∙ ap (λ (n : List ℕ). take (getD n 0 0) s) l ∙ sym (up-to-take 0 s)
-
-  owner-is : {more owner : List ℕ} → more ≡ drop (length item + 1) s → owner ≡ take (getD lens 1 0) more → owner ≡ upTo 0 (past 0 s)
-  unfolding fieldsIn
-  owner-is m o =
-      o ∙ ap₂ (λ (n t : List ℕ). take (getD n 1 0) t) l (m ∙ ap (λ (t : List ℕ). drop (length t + 1) s) item-is ∙ sym (past-drop 0 s))
-      ∙ sym (up-to-take 0 (past 0 s))
+by-parts : (b : List ℕ) {tail p fields lens item more owner last : List ℕ} → tail ≡ drop 4 b → p ≡ strip tail → fields ≡ drop 1 p
+    → (lens ≡ map length (fieldsIn 2 fields)) × (last ≡ beyond 2 fields) → item ≡ take (getD lens 0 0) fields
+    → more ≡ drop (length item + 1) fields → owner ≡ take (getD lens 1 0) more → libraryForm b ≡ formBy p item owner last
+unfolding libraryForm libraryParts goodLibrary libraryIn fieldsIn payload
+by-parts b {fields = fields} t p f l i m o =
+    rw (l .1, o, m, i, l .0, ← (up-to-take 0 fields), ← (past-drop 0 fields), ← (up-to-take 0 (past 0 fields)), f, p, t)
 
 stands : {a b c : Bool} {m n m′ n′ i o : ℕ} → a ≡ true → b ≡ true → c ≡ true → m ≡ m′ → n ≡ n′
     → (if a && b && c then Good (record { media = m′; item = i; owner = o; usage = n′ }) else Refused 6)
@@ -58,9 +49,8 @@ in-hand c =
     let l = i .before .before in
     let f = l .before .before in
     let p = f .before in
-    let e = l .find-fields .ensures in
     by-parts (p .before .before .before .args .block .now) (p .before .from .ensures) (p .held .ensures) (f .from2 .ensures)
-    (item-is _ (e .0) (i .front .ensures)) (owner-is _ (e .0) (i .front .ensures) (c .before .from3 .ensures) (c .front2 .ensures)) (e .1)
+    (l .find-fields .ensures) (i .front .ensures) (c .before .from3 .ensures) (c .front2 .ensures)
 
 returns : tie.Need-returns
 returns c = sym (in-hand (c .before) ∙ simp (lt-leb _ _ (c .if1 .taken)))
