@@ -2,16 +2,17 @@
 use mathlib.Core.Path.{_≡_, refl, sym, ap, _∙_}
 use Prim.Native.Nat.{ℕ, suc, _+_, _-_, _≤_, _<_}
 use native.Mathlib.Omega.{arith}
-use native.Mathlib.Nat.{zero-add, sub-zero}
+use native.Mathlib.Nat.{sub-zero}
 use native.Mathlib.Numerals.{add-one}
 use mathlib.Core.Bool.{true, false}
 use mathlib.Core.List.{List, [], _∷_, _++_, append-nil, map}
-use lib.ListN.{length, take, drop, set, getD, length-drop, length-set, drop-of-length-le}
-use lib.Seq.{drop-cons, drop-drop, take-suc, take-suc-set, take-all, take-length, length-take-le, append-snoc}
+use lib.ListN.{length, take, drop, set, getD, length-set, drop-of-length-le}
+use lib.Seq.{drop-cons, take-suc, take-suc-set, take-all, take-length, append-snoc}
 use lib.Dec.{eqb}
+use borrow.Author.Tests.{eqb-true, eqb-false}
 use Rattle.format.specs.Bytes.{trim, strip, upTo, past}
 use Rattle.format.specs.Chain.{fieldsIn, beyond}
-use Rattle.format.proofs.Strings.{up-to-length, strip-append, strip-behind, trim-other}
+use Rattle.format.proofs.Strings.{strip-append, strip-behind, trim-other}
 use Rattle.fields.proofs.Places.{past-drop}
 
 -- ---- the first b
@@ -70,32 +71,32 @@ pub record Stripping (s : List ℕ) (n : ℕ) : Type 0 where
   pub inside : n ≤ length s
   pub kept : strip (take n s) ≡ strip s
 
-module _ (s : List ℕ) where
-  pub stripping-start : Stripping s (length s)
-  stripping-start = record { inside = omega arith; kept = ap strip (take-length s) }
+pub stripping-start : (s : List ℕ) → Stripping s (length s)
+stripping-start s = record { inside = omega arith; kept = ap strip (take-length s) }
 
-  pub stripping-on : (n : ℕ) → Stripping s n → 0 < n → getD s (n - 1) 0 ≡ 0 → Stripping s (n - 1)
-  unfolding strip trim
-  stripping-on n p h e =
+module _ (s : List ℕ) (n : ℕ) (p : Stripping s n) where
+  abbrev x : ℕ
+  x = getD s (n - 1) 0
+
+  last : 0 < n → take n s ≡ take (n - 1) s ++ (x ∷ [])
+  last h =
       let m : suc (n - 1) ≡ n = omega arith in
       let l : n - 1 < length s = omega (arith, p .inside) in
-      let zeros : strip (getD s (n - 1) 0 ∷ []) ≡ [] = ap (λ (x : ℕ). strip (x ∷ [])) e in
+      sym (ap (λ (k : ℕ). take k s) m) ∙ take-suc s (n - 1) 0 l
+
+  pub stripping-on : 0 < n → eqb x 0 ≡ true → Stripping s (n - 1)
+  unfolding strip trim
+  stripping-on h e =
       record {
         inside = omega (arith, p .inside);
-        kept =
-            sym (strip-append (take (n - 1) s) (getD s (n - 1) 0 ∷ []) zeros)
-            ∙ sym (ap strip (take-suc s (n - 1) 0 l)) ∙ ap (λ (k : ℕ). strip (take k s)) m ∙ p .kept;
+        kept = sym (strip-append (take (n - 1) s) (x ∷ []) (ap (λ (y : ℕ). strip (y ∷ [])) (eqb-true x 0 e))) ∙ sym (ap strip (last h)) ∙ p .kept;
       }
 
-  pub stripping-stop : (n : ℕ) → Stripping s n → 0 < n → (getD s (n - 1) 0 ≡ 0 → ⊥) → n ≡ length (strip s)
+  pub stripping-stop : 0 < n → eqb x 0 ≡ false → take n s ≡ strip s
   unfolding strip
-  stripping-stop n p h e =
-      let m : suc (n - 1) ≡ n = omega arith in
-      let l : n - 1 < length s = omega (arith, p .inside) in
-      let t : take n s ≡ take (n - 1) s ++ (getD s (n - 1) 0 ∷ []) = sym (ap (λ (k : ℕ). take k s) m) ∙ take-suc s (n - 1) 0 l in
-      let k : strip s ≡ take n s = sym (p .kept) ∙ ap strip t ∙ strip-behind (take (n - 1) s) (getD s (n - 1) 0 ∷ []) (λ z. omega arith) (trim-other (getD s (n - 1) 0) [] e) ∙ sym t in
-      sym (ap length k ∙ length-take-le n s (p .inside))
+  stripping-stop h e =
+      last h ∙ sym (strip-behind (take (n - 1) s) (x ∷ []) (λ z. omega arith) (trim-other x [] (eqb-false x 0 e))) ∙ sym (ap strip (last h)) ∙ p .kept
 
-  pub stripping-none : (n : ℕ) → Stripping s n → n ≤ 0 → 0 ≡ length (strip s)
+  pub stripping-none : n ≤ 0 → take n s ≡ strip s
   unfolding strip
-  stripping-none n p h = let z : n ≡ 0 = omega arith in ap (λ (k : ℕ). length (strip (take k s))) (sym z) ∙ ap length (p .kept)
+  stripping-none h = let z : n ≡ 0 = omega arith in rw z (rw z at (p .kept))

@@ -102,21 +102,6 @@ fn units(s: &[u8]) -> bool
     true
 }
 
-// The length of s without the 00 bytes at its end.
-fn stripped(s: &[u8]) -> usize
-    ensures { λ r. ⌜ r ≡ length (strip (now (s .entry))) ⌝ }
-{
-    let mut n = s.len();
-    while 0 < n {
-        let last = n - 1;
-        if s[last] != 0 {
-            return n;
-        }
-        n = last;
-    }
-    0
-}
-
 // The first n bytes of s, or all where there are fewer.
 fn front(s: &[u8], n: usize) -> &[u8]
     ensures { λ r. ⌜ now r ≡ take n (now (s .entry)) ⌝ }
@@ -135,7 +120,11 @@ fn from(s: &[u8], at: usize) -> &[u8]
 fn held(s: &[u8]) -> &[u8]
     ensures { λ r. ⌜ now r ≡ strip (now (s .entry)) ⌝ }
 {
-    front(s, stripped(s))
+    let mut n = s.len();
+    while 0 < n && s[n - 1] == 0 {
+        n -= 1;
+    }
+    front(s, n)
 }
 
 // The bytes before the first b: all, where there is none.
