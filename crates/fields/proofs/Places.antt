@@ -108,9 +108,9 @@ fieldAt i zero ls = i
 fieldAt i (suc k) [] = i
 fieldAt i (suc k) (l ∷ ls) = fieldAt (i + 1 + l) k ls
 
--- the fields of a content at byte i stand there
+-- there it stands, where what the fields are in stands at byte i
 pub field-lies : (n k i : ℕ) (s b : List ℕ) → Front s (drop i b)
-    → let f : List ℕ = getD (fieldsIn n s) k [] in Within b (fieldAt i k (map length (fieldsIn n s))) (length f) f
+    → let ls : List ℕ = map length (fieldsIn n s) in Within b (fieldAt i k ls) (getD ls k 0) (getD (fieldsIn n s) k [])
 unfolding fieldsIn fieldAt
 field-lies zero k i s b e = front-lies b _ [] refl
 field-lies (suc n) zero i s b e = front-lies b i (upTo 0 s) (front-trans (upTo 0 s) s (drop i b) (up-to-take 0 s) e)

@@ -138,7 +138,8 @@ fn up_to(s: &[u8], b: u8) -> &[u8]
     front(s, i)
 }
 
-// The fields of s, with a 00 between them: how long each is, as many as `lens` has places. Gives what follows the last separator.
+// How long the fields of s are, as many as `lens` has places: a 00 stands between them, missing ones are empty. Gives what follows the last
+// and its 00.
 fn find_fields<'a>(s: &'a [u8], lens: &mut [usize]) -> &'a [u8]
     ensures { λ r. ⌜ (now (lens .exit) ≡ map length (fieldsIn (length (now (lens .entry))) (now (s .entry)))) × (now r ≡ beyond (length (now (lens .entry))) (now (s .entry))) ⌝ }
 {
@@ -147,6 +148,7 @@ fn find_fields<'a>(s: &'a [u8], lens: &mut [usize]) -> &'a [u8]
     while k < lens.len() {
         let field = up_to(rest, 0);
         lens[k] = field.len();
+        // by a name of its own: a call's result is not laid over a reference
         let behind = from(rest, field.len() + 1);
         rest = behind;
         k += 1;
