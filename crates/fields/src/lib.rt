@@ -297,13 +297,7 @@ pub fn library_in(block: &[u8]) -> LibraryField
     let last = find_fields(fields, &mut lens);
     let item = front(fields, lens[0]);
     let owner = front(from(fields, item.len() + 1), lens[1]);
-    if 1 < last.len() {
-        return LibraryField::Refused(6);
-    }
-    if !text::is_text(item) {
-        return LibraryField::Refused(6);
-    }
-    if !owner_stands(owner) {
+    if 1 < last.len() || !text::is_text(item) || !owner_stands(owner) {
         return LibraryField::Refused(6);
     }
     LibraryField::Good(LibraryParts {

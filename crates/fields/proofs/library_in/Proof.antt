@@ -1,6 +1,7 @@
 -- Block 1 is judged by its parts, once they are in hand.
 use mathlib.Core.Path.{_≡_, sym, _∙_}
 use Prim.Native.Nat.{ℕ, _+_}
+use mathlib.Core.Logic.{⊎-elim}
 use mathlib.Core.Bool.{Bool, true, _&&_, _||_}
 use mathlib.Core.List.{List, map}
 use borrow.Author.Needs.{needs}
@@ -53,29 +54,21 @@ in-hand c =
     (l .find-fields .ensures) (i .front .ensures) (c .before .from3 .ensures) (c .front2 .ensures)
 
 returns : tie.Need-returns
-returns c = sym (in-hand (c .before) ∙ simp (lt-leb _ _ (c .if1 .taken)))
+returns c =
+    sym (in-hand (c .before)
+    ∙ ⊎-elim (λ w. simp (lt-leb _ _ (w .taken)))
+    (⊎-elim (λ w. simp (le-leb _ _ (w .0 .left), sym (w .1 .ensures), not-true (w .1 .result) (w .2 .taken)))
+    (λ w. simp (
+      le-leb _ _ (w .0 .left),
+      sym (w .1 .ensures),
+      not-false (w .1 .result) (w .2 .left),
+      sym (w .3 .ensures),
+      not-true (w .3 .result) (w .4 .taken),
+    )))
+    (c .if1 .came))
 
 returns-2 : tie.Need-returns-2
 returns-2 c =
-    let t = c .before in
-    sym (in-hand (t .before .before)
-    ∙ simp (le-leb _ _ (t .before .if1 .left), sym (t .is-text .ensures), not-true (t .is-text .result) (c .if2 .taken)))
-
-returns-3 : tie.Need-returns-3
-returns-3 c =
-    let o = c .before in
-    let t = o .before .before in
-    sym (in-hand (t .before .before)
-    ∙ simp (
-      le-leb _ _ (t .before .if1 .left),
-      sym (t .is-text .ensures),
-      not-false (t .is-text .result) (o .before .if2 .left),
-      sym (o .owner-stands .ensures),
-      not-true (o .owner-stands .result) (c .if3 .taken),
-    ))
-
-returns-4 : tie.Need-returns-4
-returns-4 c =
     let o = c .before .before .before in
     let t = o .before .before in
     sym (in-hand (t .before .before)
@@ -90,5 +83,5 @@ pub library-in-spec : {M : Type 1} → statement M
 library-in-spec =
     tie.close
     (tie.spec (λ c κs. search needs) (λ c κs. search needs) (λ c κs. search needs) (λ c. search needs) (λ c κs. search needs)
-    (λ c. search needs) (λ c κs. search needs) (λ c. search needs) (λ c κs. search needs) (λ c. search needs) (λ c κs. search needs) returns
-    (λ c κs. search needs) returns-2 (λ c κs. search needs) returns-3 (λ c κs. search needs) (λ c κs. search needs) returns-4)
+    (λ c. search needs) (λ c κs. search needs) (λ c. search needs) (λ c κs. search needs) (λ c. search needs) (λ c κs. search needs)
+    (λ c κs. search needs) (λ c κs. search needs) returns (λ c κs. search needs) (λ c κs. search needs) returns-2)
