@@ -1,48 +1,68 @@
--- What the loops of this crate know at each turn, and how a turn keeps it: the first of a byte is sought, the 00 at the end are left out.
+-- What the loops of this crate know at each turn, and how a turn keeps it: the first of a byte is sought, the fields are found, the 00 at the end are left out.
 use mathlib.Core.Path.{_≡_, refl, sym, ap, _∙_}
 use Prim.Native.Nat.{ℕ, suc, _+_, _-_, _≤_, _<_}
 use native.Mathlib.Omega.{arith}
-use native.Mathlib.Nat.{zero-add}
+use native.Mathlib.Nat.{sub-zero}
 use native.Mathlib.Numerals.{add-one}
-use mathlib.Core.List.{List, [], _∷_, _++_}
-use lib.ListN.{length, take, drop, getD, drop-of-length-le}
-use lib.Seq.{drop-cons, take-suc, take-length, length-take-le}
-use borrow.Author.Tests.{eq-eqb, ne-eqb}
-use Rattle.format.specs.Bytes.{trim, strip, upTo}
+use mathlib.Core.Bool.{true, false}
+use mathlib.Core.List.{List, [], _∷_, _++_, append-nil, map}
+use lib.ListN.{length, take, drop, set, getD, length-set, drop-of-length-le}
+use lib.Seq.{drop-cons, take-suc, take-suc-set, take-all, take-length, append-snoc}
+use lib.Dec.{eqb}
+use borrow.Author.Tests.{eqb-true, eqb-false}
+use Rattle.format.specs.Bytes.{trim, strip, upTo, past}
+use Rattle.format.specs.Chain.{fieldsIn, beyond}
 use Rattle.format.proofs.Strings.{strip-append, strip-behind, trim-other}
+use Rattle.fields.proofs.Places.{past-drop}
 
 -- ---- the first b
 
 -- none of the bytes before i is b
-pub record Seeking (b : ℕ) (s : List ℕ) (i : ℕ) : Type 0 where
-  pub inside : i ≤ length s
-  pub before : i + length (upTo b (drop i s)) ≡ length (upTo b s)
+abbrev pub Seeking : ℕ → List ℕ → ℕ → Type 0
+Seeking b s i = take i s ++ upTo b (drop i s) ≡ upTo b s
 
-module _ (b : ℕ) (s : List ℕ) where
-  pub seeking-start : Seeking b s 0
-  seeking-start = record { inside = omega arith; before = zero-add (length (upTo b s)) }
-
-  seen : (i : ℕ) → i < length s → getD s i 0 ≡ b → upTo b (drop i s) ≡ []
+module _ (b : ℕ) (s : List ℕ) (i : ℕ) (p : Seeking b s i) where
+  pub seeking-on : i < length s → eqb (getD s i 0) b ≡ false → Seeking b s (i + 1)
   unfolding upTo
-  seen i h e = rw (drop-cons s i 0 h, eq-eqb (getD s i 0) b e) refl
+  seeking-on h e = rw (add-one, take-suc s i 0 h, append-snoc) (rw (drop-cons s i 0 h, e) at p)
 
-  unseen : (i : ℕ) → i < length s → (getD s i 0 ≡ b → ⊥) → upTo b (drop i s) ≡ getD s i 0 ∷ upTo b (drop (suc i) s)
+  pub seeking-found : i < length s → eqb (getD s i 0) b ≡ true → take i s ≡ upTo b s
   unfolding upTo
-  unseen i h e = rw (drop-cons s i 0 h, ne-eqb (getD s i 0) b e) refl
+  seeking-found h e = rw (drop-cons s i 0 h, e, append-nil) at p
 
-  pub seeking-on : (i : ℕ) → Seeking b s i → i < length s → (getD s i 0 ≡ b → ⊥) → Seeking b s (i + 1)
-  seeking-on i p h e =
+  pub seeking-over : length s ≤ i → take i s ≡ upTo b s
+  unfolding upTo
+  seeking-over h = rw (drop-of-length-le s h, append-nil) at p
+
+-- ---- the fields
+
+-- the first k of n lengths are in place, the other fields are those of the rest
+pub record Finding (s : List ℕ) (n : ℕ) (lens rest : List ℕ) (k : ℕ) : Type 0 where
+  pub places : length lens ≡ n
+  pub filled : take k lens ++ map length (fieldsIn (n - k) rest) ≡ map length (fieldsIn n s)
+  pub left : beyond (n - k) rest ≡ beyond n s
+
+pub finding-start : (s lens : List ℕ) → Finding s (length lens) lens s 0
+finding-start s lens = record { places = refl; filled = rw sub-zero refl; left = rw sub-zero refl }
+
+module _ {s lens rest : List ℕ} {n k : ℕ} (f : Finding s n lens rest k) where
+  pub finding-on : (field more : List ℕ) → field ≡ upTo 0 rest → more ≡ drop (length field + 1) rest → k < length lens
+      → Finding s n (set lens k (length field)) more (k + 1)
+  unfolding fieldsIn beyond
+  finding-on field more e d h =
+      let m : n - k ≡ suc (n - suc k) = omega (arith, f .places) in
+      let p : more ≡ past 0 rest = rw e at d ∙ sym (past-drop 0 rest) in
       record {
-        inside = omega arith;
-        before = rw add-one (omega (arith, p .before, ap length (unseen i h e)));
+        places = length-set lens k (length field) ∙ f .places;
+        filled = rw (add-one, take-suc-set lens k (length field) h, append-snoc, p, e) (rw m at (f .filled));
+        left = rw (add-one, p) (rw m at (f .left));
       }
 
-  pub seeking-found : (i : ℕ) → Seeking b s i → i < length s → getD s i 0 ≡ b → i ≡ length (upTo b s)
-  seeking-found i p h e = omega (arith, p .before, ap length (seen i h e))
-
-  pub seeking-over : (i : ℕ) → Seeking b s i → length s ≤ i → i ≡ length (upTo b s)
-  unfolding upTo
-  seeking-over i p h = omega (arith, p .before, ap (λ (l : List ℕ). length (upTo b l)) (drop-of-length-le s h))
+  pub finding-end : length lens ≤ k → (lens ≡ map length (fieldsIn n s)) × (rest ≡ beyond n s)
+  unfolding fieldsIn beyond
+  finding-end h =
+      let m : n - k ≡ 0 = omega (arith, f .places) in
+      (rw (m, append-nil, take-all k lens h) at (f .filled), rw m at (f .left))
 
 -- ---- the 00 at the end
 
@@ -51,32 +71,32 @@ pub record Stripping (s : List ℕ) (n : ℕ) : Type 0 where
   pub inside : n ≤ length s
   pub kept : strip (take n s) ≡ strip s
 
-module _ (s : List ℕ) where
-  pub stripping-start : Stripping s (length s)
-  stripping-start = record { inside = omega arith; kept = ap strip (take-length s) }
+pub stripping-start : (s : List ℕ) → Stripping s (length s)
+stripping-start s = record { inside = omega arith; kept = ap strip (take-length s) }
 
-  pub stripping-on : (n : ℕ) → Stripping s n → 0 < n → getD s (n - 1) 0 ≡ 0 → Stripping s (n - 1)
-  unfolding strip trim
-  stripping-on n p h e =
+module _ (s : List ℕ) (n : ℕ) (p : Stripping s n) where
+  abbrev x : ℕ
+  x = getD s (n - 1) 0
+
+  last : 0 < n → take n s ≡ take (n - 1) s ++ (x ∷ [])
+  last h =
       let m : suc (n - 1) ≡ n = omega arith in
       let l : n - 1 < length s = omega (arith, p .inside) in
-      let zeros : strip (getD s (n - 1) 0 ∷ []) ≡ [] = ap (λ (x : ℕ). strip (x ∷ [])) e in
+      sym (ap (λ (k : ℕ). take k s) m) ∙ take-suc s (n - 1) 0 l
+
+  pub stripping-on : 0 < n → eqb x 0 ≡ true → Stripping s (n - 1)
+  unfolding strip trim
+  stripping-on h e =
       record {
         inside = omega (arith, p .inside);
-        kept =
-            sym (strip-append (take (n - 1) s) (getD s (n - 1) 0 ∷ []) zeros)
-            ∙ sym (ap strip (take-suc s (n - 1) 0 l)) ∙ ap (λ (k : ℕ). strip (take k s)) m ∙ p .kept;
+        kept = sym (strip-append (take (n - 1) s) (x ∷ []) (ap (λ (y : ℕ). strip (y ∷ [])) (eqb-true x 0 e))) ∙ sym (ap strip (last h)) ∙ p .kept;
       }
 
-  pub stripping-stop : (n : ℕ) → Stripping s n → 0 < n → (getD s (n - 1) 0 ≡ 0 → ⊥) → n ≡ length (strip s)
+  pub stripping-stop : 0 < n → eqb x 0 ≡ false → take n s ≡ strip s
   unfolding strip
-  stripping-stop n p h e =
-      let m : suc (n - 1) ≡ n = omega arith in
-      let l : n - 1 < length s = omega (arith, p .inside) in
-      let t : take n s ≡ take (n - 1) s ++ (getD s (n - 1) 0 ∷ []) = sym (ap (λ (k : ℕ). take k s) m) ∙ take-suc s (n - 1) 0 l in
-      let k : strip s ≡ take n s = sym (p .kept) ∙ ap strip t ∙ strip-behind (take (n - 1) s) (getD s (n - 1) 0 ∷ []) (λ z. omega arith) (trim-other (getD s (n - 1) 0) [] e) ∙ sym t in
-      sym (ap length k ∙ length-take-le n s (p .inside))
+  stripping-stop h e =
+      last h ∙ sym (strip-behind (take (n - 1) s) (x ∷ []) (λ z. omega arith) (trim-other x [] (eqb-false x 0 e))) ∙ sym (ap strip (last h)) ∙ p .kept
 
-  pub stripping-none : (n : ℕ) → Stripping s n → n ≤ 0 → 0 ≡ length (strip s)
+  pub stripping-none : n ≤ 0 → take n s ≡ strip s
   unfolding strip
-  stripping-none n p h = let z : n ≡ 0 = omega arith in ap (λ (k : ℕ). length (strip (take k s))) (sym z) ∙ ap length (p .kept)
+  stripping-none h = let z : n ≡ 0 = omega arith in rw z (rw z at (p .kept))

@@ -3,8 +3,9 @@ use mathlib.Core.Path.{_≡_, refl, sym, ap, ap₂, subst, _∙_}
 use mathlib.Core.Logic.{inl, inr}
 use Prim.Native.Nat.{ℕ, zero, suc, _+_, _-_, _≤_}
 use native.Mathlib.Omega.{arith}
+use native.Mathlib.Numerals.{add-one}
 use mathlib.Core.Bool.{Bool, true, false, or-false}
-use mathlib.Core.List.{List, [], _∷_, _++_}
+use mathlib.Core.List.{List, [], _∷_, _++_, map}
 use lib.ListN.{length, take, drop, getD, length-take, length-drop}
 use lib.Seq.{drop-drop, take-take}
 use lib.Dec.{eqb, leb}
@@ -12,7 +13,7 @@ use borrow.Author.Tests.{eqb-false, ne-eqb, le-leb, lt-leb, leb-false}
 use Rattle.format.specs.Answers.{need, inOrder}
 use Rattle.format.specs.Bytes.{if_then_else_, isEmpty, all, same, part, trim, strip, upTo, past}
 use Rattle.format.specs.Fields.{capital, hyphen, blank, alternate, alternative, marked, goodItem, prefixIn, ownerSaid, goodOwner}
-use Rattle.format.specs.Chain.{payload, libraryIn, goodLibrary}
+use Rattle.format.specs.Chain.{payload, fieldsIn, libraryIn, goodLibrary}
 use Rattle.format.proofs.Tests.{never, and-l, or-inv}
 use Rattle.format.proofs.Strings.{empty-of}
 use Rattle.format.proofs.Fields.{capital-ge, alternative-facts, isil-facts}
@@ -53,15 +54,15 @@ up-to-take b (x ∷ s) = go (eqb x b) (up-to-take b s)
     go false e = ap (λ (l : List ℕ). x ∷ l) e
 
 -- what stands behind the first b is what is left behind it
-pub past-drop : (b : ℕ) (s : List ℕ) → past b s ≡ drop 1 (drop (length (upTo b s)) s)
+pub past-drop : (b : ℕ) (s : List ℕ) → past b s ≡ drop (length (upTo b s) + 1) s
 unfolding upTo past
 past-drop b [] = refl
 past-drop b (x ∷ s) = go (eqb x b) (past-drop b s)
   where
-    go : (t : Bool) → past b s ≡ drop 1 (drop (length (upTo b s)) s)
-        → (if t then s else past b s) ≡ drop 1 (drop (length (if t then [] else x ∷ upTo b s)) (x ∷ s))
+    go : (t : Bool) → past b s ≡ drop (length (upTo b s) + 1) s
+        → (if t then s else past b s) ≡ drop (length (if t then [] else x ∷ upTo b s) + 1) (x ∷ s)
     go true e = refl
-    go false e = e
+    go false e = rw add-one (rw add-one at e)
 
 front-within : (r s : List ℕ) → Front r s → length r ≤ length s
 front-within r s e = omega (arith, ap length e, length-take (length r) s)
@@ -98,6 +99,25 @@ within-length {b} {s} {i} {n} w = omega (arith, ap length (w .is), length-take n
 
 front-lies : (b : List ℕ) (i : ℕ) (s : List ℕ) → Front s (drop i b) → Within b i (length s) s
 front-lies b i s e = record { is = sym e; inside = omega (arith, front-within s (drop i b) e, length-drop i b) }
+
+-- ---- fields with a 00 between them
+
+-- where field k of these lengths begins, the first of them at byte i
+unfoldable pub fieldAt : ℕ → ℕ → List ℕ → ℕ
+fieldAt i zero ls = i
+fieldAt i (suc k) [] = i
+fieldAt i (suc k) (l ∷ ls) = fieldAt (i + 1 + l) k ls
+
+-- there it stands, where what the fields are in stands at byte i
+pub field-lies : (n k i : ℕ) (s b : List ℕ) → Front s (drop i b)
+    → let ls : List ℕ = map length (fieldsIn n s) in Within b (fieldAt i k ls) (getD ls k 0) (getD (fieldsIn n s) k [])
+unfolding fieldsIn fieldAt
+field-lies zero k i s b e = front-lies b _ [] refl
+field-lies (suc n) zero i s b e = front-lies b i (upTo 0 s) (front-trans (upTo 0 s) s (drop i b) (up-to-take 0 s) e)
+field-lies (suc n) (suc k) i s b e =
+    let l : ℕ = length (upTo 0 s) in
+    let next : i + (l + 1) ≡ i + 1 + l = omega arith in
+    field-lies n k (i + 1 + l) (past 0 s) b (rw (past-drop 0 s, ← next, ← (drop-drop (l + 1) i b)) (front-drop (l + 1) s (drop i b) e))
 
 -- ---- each form is its parts, or refusal 6
 
@@ -266,30 +286,12 @@ module _ (b : List ℕ) where
   media-lies true e = record { is = refl; inside = omega arith }
   media-lies false e = front-lies b 4 (libraryIn b .media ∷ []) (front-first (payload b) (drop 4 b) payload-lies (eqb-false (libraryIn b .media) 0 e))
 
-  item-lies : Front (libraryIn b .item) (drop 5 b)
-  unfolding libraryIn
-  item-lies = front-trans _ (drop 1 (payload b)) (drop 5 b) (up-to-take 0 (drop 1 (payload b))) fields-lie
-
-  owner-lies : Front (libraryIn b .owner) (drop (6 + length (libraryIn b .item)) b)
-  unfolding libraryIn
-  owner-lies =
-      let fields : List ℕ = drop 1 (payload b) in
-      let n : ℕ = length (upTo 0 fields) in
-      let k : 5 + n + 1 ≡ 6 + n = omega arith in
-      let at : drop 1 (drop n (drop 5 b)) ≡ drop (6 + n) b =
-      ap (drop 1) (drop-drop n 5 b) ∙ drop-drop 1 (5 + n) b ∙ ap (λ (i : ℕ). drop i b) k in
-      let more : Front (drop 1 (drop n fields)) (drop (6 + n) b) =
-      subst (Front (drop 1 (drop n fields))) at
-      (front-drop 1 (drop n fields) (drop n (drop 5 b)) (front-drop n fields (drop 5 b) fields-lie)) in
-      front-trans _ (past 0 fields) (drop (6 + n) b) (up-to-take 0 (past 0 fields))
-      (subst (λ (l : List ℕ). Front l (drop (6 + n) b)) (sym (past-drop 0 fields)) more)
-
   pub library-stands : LibraryStands b (libraryParts b)
-  unfolding libraryParts
+  unfolding libraryParts libraryIn fieldsIn fieldAt
   library-stands =
       record {
         media = media-lies (eqb (libraryIn b .media) 0) refl;
-        item = front-lies b 5 (libraryIn b .item) item-lies;
-        owner = front-lies b _ (libraryIn b .owner) owner-lies;
+        item = field-lies 2 0 5 (drop 1 (payload b)) b fields-lie;
+        owner = field-lies 2 1 5 (drop 1 (payload b)) b fields-lie;
         usage = refl;
       }

@@ -2,9 +2,11 @@
 // What each answer means is said in `specs/Forms.antt`, over the definitions of `format`.
 ghost use mathlib.Core.Path.{_≡_};
 ghost use mathlib.Core.Bool.{_||_};
+ghost use mathlib.Core.List.{map};
 ghost use lib.ListN.{length, take, drop};
-ghost use Rattle.format.specs.Bytes.{isEmpty, all, strip, upTo, past};
+ghost use Rattle.format.specs.Bytes.{isEmpty, all, strip, upTo};
 ghost use Rattle.format.specs.Fields.{capital, unitByte, isilOf, isil, alternative, isOwner, marked, prefixIn};
+ghost use Rattle.format.specs.Chain.{fieldsIn, beyond};
 ghost use Rattle.format.specs.Numbers.{numberOf};
 ghost use Rattle.fields.specs.declared.OwnerField.the-variants as owner;
 ghost use Rattle.fields.specs.Forms.{itemForm, ownerForm, libraryForm, itemGiven, ownerGiven, libraryGiven};
@@ -100,35 +102,6 @@ fn units(s: &[u8]) -> bool
     true
 }
 
-// How many bytes stand before the first b: all, where there is none.
-fn find(s: &[u8], b: u8) -> usize
-    ensures { λ r. ⌜ r ≡ length (upTo b (now (s .entry))) ⌝ }
-{
-    let mut i: usize = 0;
-    while i < s.len() {
-        if s[i] == b {
-            return i;
-        }
-        i += 1;
-    }
-    i
-}
-
-// The length of s without the 00 bytes at its end.
-fn stripped(s: &[u8]) -> usize
-    ensures { λ r. ⌜ r ≡ length (strip (now (s .entry))) ⌝ }
-{
-    let mut n = s.len();
-    while 0 < n {
-        let last = n - 1;
-        if s[last] != 0 {
-            return n;
-        }
-        n = last;
-    }
-    0
-}
-
 // The first n bytes of s, or all where there are fewer.
 fn front(s: &[u8], n: usize) -> &[u8]
     ensures { λ r. ⌜ now r ≡ take n (now (s .entry)) ⌝ }
@@ -147,28 +120,40 @@ fn from(s: &[u8], at: usize) -> &[u8]
 fn held(s: &[u8]) -> &[u8]
     ensures { λ r. ⌜ now r ≡ strip (now (s .entry)) ⌝ }
 {
-    front(s, stripped(s))
+    let mut n = s.len();
+    while 0 < n && s[n - 1] == 0 {
+        n -= 1;
+    }
+    front(s, n)
 }
 
 // The bytes before the first b: all, where there is none.
 fn up_to(s: &[u8], b: u8) -> &[u8]
     ensures { λ r. ⌜ now r ≡ upTo b (now (s .entry)) ⌝ }
 {
-    front(s, find(s, b))
+    let mut i: usize = 0;
+    while i < s.len() && s[i] != b {
+        i += 1;
+    }
+    front(s, i)
 }
 
-// The bytes behind the byte at a place.
-fn behind(s: &[u8], at: usize) -> &[u8]
-    ensures { λ r. ⌜ now r ≡ drop 1 (drop at (now (s .entry))) ⌝ }
+// How long the fields of s are, as many as `lens` has places: a 00 stands between them, missing ones are empty. Gives what follows the last
+// and its 00.
+fn find_fields<'a>(s: &'a [u8], lens: &mut [usize]) -> &'a [u8]
+    ensures { λ r. ⌜ (now (lens .exit) ≡ map length (fieldsIn (length (now (lens .entry))) (now (s .entry)))) × (now r ≡ beyond (length (now (lens .entry))) (now (s .entry))) ⌝ }
 {
-    from(from(s, at), 1)
-}
-
-// The bytes behind the first b.
-fn past(s: &[u8], b: u8) -> &[u8]
-    ensures { λ r. ⌜ now r ≡ past b (now (s .entry)) ⌝ }
-{
-    behind(s, find(s, b))
+    let mut rest = s;
+    let mut k: usize = 0;
+    while k < lens.len() {
+        let field = up_to(rest, 0);
+        lens[k] = field.len();
+        // by a name of its own: a call's result is not laid over a reference
+        let behind = from(rest, field.len() + 1);
+        rest = behind;
+        k += 1;
+    }
+    rest
 }
 
 // Is s the marker 01?
@@ -207,7 +192,8 @@ fn isil_of(prefix: &[u8], unit: &[u8]) -> bool
 pub fn isil(s: &[u8]) -> bool
     ensures { λ r. ⌜ r ≡ isil (now (s .entry)) ⌝ }
 {
-    isil_of(up_to(s, b'-'), past(s, b'-'))
+    let prefix = up_to(s, b'-');
+    isil_of(prefix, from(s, prefix.len() + 1))
 }
 
 // Is s an alternative owner: 02 or 03, then text?
@@ -307,17 +293,11 @@ pub fn library_in(block: &[u8]) -> LibraryField
 {
     let payload = held(from(block, 4));
     let fields = from(payload, 1);
-    let item = up_to(fields, 0);
-    let behind_item = behind(fields, item.len());
-    let owner = up_to(behind_item, 0);
-    let last = behind(behind_item, owner.len());
-    if 1 < last.len() {
-        return LibraryField::Refused(6);
-    }
-    if !text::is_text(item) {
-        return LibraryField::Refused(6);
-    }
-    if !owner_stands(owner) {
+    let mut lens = [0usize; 2];
+    let last = find_fields(fields, &mut lens);
+    let item = front(fields, lens[0]);
+    let owner = front(from(fields, item.len() + 1), lens[1]);
+    if 1 < last.len() || !text::is_text(item) || !owner_stands(owner) {
         return LibraryField::Refused(6);
     }
     LibraryField::Good(LibraryParts {

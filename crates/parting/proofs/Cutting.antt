@@ -134,7 +134,7 @@ cut-stands true s c e =
     let n : ℕ = length (upTo dot s) in
     let less : n + 1 ≤ length s = omega (arith, two-parts s (r .0)) in
     let front : take (n + 1 - 1) s ≡ upTo dot s = ap (λ (k : ℕ). take k s) (let l : n + 1 - 1 ≡ n = omega arith in l) ∙ sym (up-to-take dot s) in
-    subst (Standing true s) (worked [] _ c (r .1) .1) (stands-at true s (n + 1) (need-ok 22 _ (r .0)) less front (sym (drop-drop 1 n s) ∙ sym (past-drop dot s)))
+    subst (Standing true s) (worked [] _ c (r .1) .1) (stands-at true s (n + 1) (need-ok 22 _ (r .0)) less front (sym (past-drop dot s)))
 
 -- a refusal is that of the count
 only-step : (st : Step) (a : Cut) (k : ℕ) → inOrder (st ∷ []) a ≡ refused (plain k) → st ≡ refused (plain k)

@@ -5,6 +5,7 @@ use native.Mathlib.Omega.{arith}
 use mathlib.Core.Bool.{Bool, true, false}
 use mathlib.Core.List.{List, [], _∷_}
 use lib.ListN.{length, drop, getD, drop-of-length-le}
+use lib.Seq.{drop-drop}
 use lib.Dec.{eqb}
 use Rattle.format.specs.Bytes.{if_then_else_, upTo, past}
 use Rattle.format.proofs.Strings.{rest-opened}
@@ -82,7 +83,7 @@ behind-some (c ∷ r) h = refl
 pub parts-past : (s : List ℕ) → 2 ≤ length (parts s) → drop 1 (parts s) ≡ parts (past dot s)
 parts-past s h =
     let e = parts-behind s in
-    e ∙ behind-some (drop (length (upTo dot s)) s) (omega (arith, ap length (first-part s), ap length e)) ∙ sym (ap parts (past-drop dot s))
+    e ∙ behind-some (drop (length (upTo dot s)) s) (omega (arith, ap length (first-part s), ap length e)) ∙ ap parts (drop-drop 1 (length (upTo dot s)) s ∙ sym (past-drop dot s))
 
 -- ---- where code finds them
 
