@@ -2,7 +2,7 @@
 -- The byte loop: the bytes behind byte k, with the XOR so far, come to the XOR of all behind the first.
 use mathlib.Core.Path.{_≡_, refl, sym, ap, ap₂, _∙_}
 use mathlib.Core.Logic.{inl, inr, ⊎-elim}
-use mathlib.Core.Bool.{true, false, not, _&&_}
+use mathlib.Core.Bool.{true, false, _&&_}
 use mathlib.Core.List.{List, []}
 use Prim.Native.Nat.{ℕ, _+_, _-_, _≤_}
 use native.Mathlib.Omega.{arith}
@@ -104,13 +104,16 @@ module _ (c : tie.After-loop Inv-loop μ-loop Inv-chain μ-chain) where
       xor-all (c .before .before .before .before .before .before .before .before .block-at .result .now) (c .before .loop .k) (c .before .loop .x) (omega (arith, c .loop-test .left, ap length (is named-block), no-longer (tag named-block) (at named-block), size named-block)) (c .before .loop .inv .1)
       ∙ ap (λ (b : List ℕ). xorAll (drop 1 b)) (is named-block)
 
-  -- the number of its damage
-  number-is : (r : ℕ) → r ≡ damageBy (c .before .before .before .before .before .before .before .byte-at .result) (named-block .id-of .result) (c .before .loop .x) (eqb (named-block .id-of .result) 1 && not (eqb (turn named-block .chain .library .len) 0))
-      → numberOf (damageOf (at named-block) (before named-block) block) ≡ r
-  number-is r e =
-      let says-here : c .before .before .before .before .before .before .before .byte-at .result ≡ lengthOf block = size named-block ∙ sym (says-at (tag named-block) (at named-block) [] (omega (arith, three named-block))) in
-      sym (e ∙ ap (damageBy _ _ _) (sym (second _ _ _ _ _ (turn named-block .chain .inv .1) (named-block .id-of .result))) ∙ ap₂ (λ (n i : ℕ). damageBy n i (c .before .loop .x) (single i && oneOf (before named-block) i)) says-here (id-is named-block)
-      ∙ damage-by block (c .before .loop .x) low whole-block sum (at named-block) (before named-block) (not-two (tag named-block) (at named-block) (three named-block)))
+-- the number of its damage
+number-is : (c : tie.After-damage-by Inv-loop μ-loop Inv-chain μ-chain) → let d = named-block (c .before .before) in
+    numberOf (damageOf (at d) (before d) (blockAt (tag d) (at d))) ≡ c .damage-by .result
+number-is c =
+    let l = c .before .before in
+    let d = named-block l in
+    let size-says = size d ∙ sym (says-at (tag d) (at d) [] (omega (arith, three d))) in
+    sym (c .damage-by .ensures ∙ ap (damageBy _ _ _) (sym (second _ _ _ _ _ (turn d .chain .inv .1) (d .id-of .result)))
+    ∙ ap₂ (λ (n i : ℕ). damageBy n i (l .before .loop .x) (single i && oneOf (before d) i)) size-says (id-is d)
+    ∙ damage-by (block l) _ (low l) (whole-block l) (sum l) (at d) (before d) (not-two (tag d) (at d) (three d)))
 
 -- ---- it has no damage
 
@@ -122,7 +125,7 @@ module _ (c : tie.Joined4 Inv-loop μ-loop Inv-chain μ-chain) where
   none = elim (c .if4 .came) [
     | inl w ↦
         let l : tie.After-loop Inv-loop μ-loop Inv-chain μ-chain = record { before = record { before = record { before = c .before; if4 = w .0 }; loop = w .1 }; loop-test = w .2 } in
-        number-none (at judged) (before judged) (blockAt (tag judged) (at judged)) (number-is l _ (w .4 .ensures) ∙ w .5 .left)
+        number-none (at judged) (before judged) (blockAt (tag judged) (at judged)) (number-is (record { before = record { before = l; struct-known = w .3 }; damage-by = w .4 }) ∙ w .5 .left)
     | inr w ↦
         let high : structured (blockAt (tag judged) (at judged)) ≡ false = lt-leb (idOf (blockAt (tag judged) (at judged))) 100 (omega (arith, w .0 .left, id-is judged)) in
         unstructured _ high (at judged) (before judged) (not-two (tag judged) (at judged) (three judged)) (says judged (omega (arith, w .1 .left, ap length (is judged), size judged)))
@@ -136,15 +139,6 @@ module _ (c : tie.Joined4 Inv-loop μ-loop Inv-chain μ-chain) where
 
   stands-here : Stands (tag judged) (at judged)
   stands-here = there (tag judged) (at judged) _ _ _ (turn judged .chain .inv .1) two none
-
-  -- what is found with block 1, and with another
-  with-library : judged .id-of .result ≡ 1
-      → SoFar (tag judged) (at judged + getD (tag judged) (at judged) 0) (from (at judged) (getD (tag judged) (at judged) 0)) (turn judged .chain .count) (turn judged .chain .size)
-  with-library e = library (tag judged) (at judged) _ _ _ (turn judged .chain .inv .1) two none (sym (id-is judged) ∙ e)
-
-  with-other : (judged .id-of .result ≡ 1 → ⊥)
-      → SoFar (tag judged) (at judged + getD (tag judged) (at judged) 0) (turn judged .chain .library) (turn judged .chain .count + 1) (turn judged .chain .size + getD (tag judged) (at judged) 0)
-  with-other e = other (tag judged) (at judged) _ _ _ (turn judged .chain .inv .1) two none (λ h. e (id-is judged ∙ h))
 
 -- ---- the ways out
 
@@ -183,7 +177,7 @@ left-rightly c =
             | inr v ↦ elim v [
               | inl w ↦
                   let l : tie.After-loop Inv-loop μ-loop Inv-chain μ-chain = record { before = record { before = record { before = _; if4 = w .7 }; loop = w .8 }; loop-test = w .9 } in
-                  harmed _ _ _ _ (w .13) (w .12 .taken) (damage (omega (arith, three (named-block l))) _ (number-some at _ (blockAt t at) _ (number-is l _ (w .11 .ensures)) (w .12 .taken)))
+                  harmed _ _ _ _ (w .13) (w .12 .taken) (damage (omega (arith, three (named-block l))) _ (number-some at _ (blockAt t at) _ (number-is (record { before = record { before = l; struct-known = w .10 }; damage-by = w .11 })) (w .12 .taken)))
               | inr w ↦
                   let h = three-at-least _ _ (w .2 .ensures .0) (w .3 .left) (w .4 .left) (w .5 .left) in
                   let short : lengthOf (blockAt t at) ≡ length (blockAt t at) → ⊥ = λ e. omega (arith, e, says-at t at [] (omega arith), w .2 .ensures .0, ap length (w .1 .ensures .0), w .8 .taken) in
@@ -260,10 +254,11 @@ chain-again-2 c =
     let d = c .before in
     let j = judged d in
     let n = sym (size j) in
-    let next = ap (λ (k : ℕ). turn j .chain .at + k) n in (
+    let next = ap (λ (k : ℕ). turn j .chain .at + k) n in
+    let i = turn j .chain .inv .1 in (
       unharmed d,
-      ⊎-elim (λ w. moved (tag j) next (ap (from (turn j .chain .at)) n ∙ sym (w .1)) (sym (w .2)) (sym (w .3)) (with-library d (w .0 .taken)))
-          (λ w. moved (tag j) next (sym (w .1)) (sym (w .2)) (ap (λ (k : ℕ). turn j .chain .size + k) n ∙ sym (w .3)) (with-other d (w .0 .left))) (c .if8 .came),
+      ⊎-elim (λ w. moved (tag j) next (ap (from (turn j .chain .at)) n ∙ sym (w .1)) (sym (w .2)) (sym (w .3)) (library _ _ _ _ _ i (two d) (none d) (sym (id-is j) ∙ w .0 .taken)))
+          (λ w. moved (tag j) next (sym (w .1)) (sym (w .2)) (ap (λ (k : ℕ). turn j .chain .size + k) n ∙ sym (w .3)) (other _ _ _ _ _ i (two d) (none d) (λ h. w .0 .left (id-is j ∙ h)))) (c .if8 .came),
     )
 
 returns : tie.Need-returns Inv-loop μ-loop Inv-chain μ-chain
