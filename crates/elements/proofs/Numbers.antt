@@ -7,11 +7,11 @@ use mathlib.Core.Bool.{true, false, not, _&&_, _||_, and-true}
 use mathlib.Core.List.{List, [], _∷_}
 use lib.Dec.{eqb, leb}
 use lib.ListN.{length}
-use borrow.Author.Tests.{eqb-true, ne-eqb, le-leb, lt-leb, leb-true}
+use borrow.Author.Tests.{eqb-true, ne-eqb, le-leb, lt-leb}
 use Rattle.format.specs.Bytes.{all}
 use Rattle.format.specs.Elements.{table, required, shape, form, value, known}
 use Rattle.format.proofs.Tests.{and-no, or-inv, same-truth}
-use Rattle.format.proofs.Slots.{kind-of, form-kind}
+use Rattle.format.proofs.Slots.{kind-of}
 
 -- ---- shapes and forms
 
@@ -52,8 +52,3 @@ pub setting : (n : ℕ) (s : List ℕ) → known n ≡ true → (length s ≡ 0 
 unfolding value
 setting n [] k h = absurd (h refl)
 setting n (x ∷ s) k h = sym (rw k)
-
--- a number with a form is a byte
-pub form-byte : (n : ℕ) (s : List ℕ) → form n s ≡ true → n ≤ 255
-unfolding all
-form-byte n s e = let r = form-kind n s e (λ r. leb (r .number) 255) refl in rw (r .1) (leb-true (r .0 .number) 255 (r .3))

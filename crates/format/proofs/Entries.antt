@@ -6,17 +6,17 @@ use native.Mathlib.Omega.{arith}
 use native.Mathlib.Nat.{le-refl, le-of-eq}
 use mathlib.Core.Bool.{Bool, true, false, not, _&&_, _||_}
 use mathlib.Core.List.{List, [], _∷_, _++_, map}
-use lib.Dec.{eqb, ltb}
+use lib.Dec.{eqb, leb, ltb}
 use lib.ListN.{length}
 use borrow.Author.Tests.{eqb-true, eq-eqb, ne-eqb, ltb-true, lt-ltb}
 use Rattle.format.specs.Bytes.{if_then_else_, isEmpty, all, upTo, past}
 use Rattle.format.specs.Fields.{isilOf, isil, alternative}
 use Rattle.format.specs.Chain.{named, summed, wellFormed, carriable}
-use Rattle.format.specs.Elements.{Content, numbers, required, setInfo, shape, form, value, valuesAt, clash, sound}
+use Rattle.format.specs.Elements.{Content, table, numbers, required, setInfo, shape, form, value, valuesAt, clash, sound}
 use Rattle.format.specs.Sheet.{Entry, risingFrom, rising, find, carriedIn, contentOf, formed, present, goodValues, entriesAt, carriedEntries, entries}
 use Rattle.format.proofs.Tests.{never, and-l, and-r, and-i, not-t, or-inv, or-l, or-r, all-mono}
 use Rattle.format.proofs.Values.{required-shape}
-use Rattle.format.proofs.Slots.{form-kind, values-length, sound-parts, parts-sound}
+use Rattle.format.proofs.Slots.{kind-of, values-length, sound-parts, parts-sound}
 
 -- ---- what a form says of its number and of its bytes
 
@@ -26,12 +26,13 @@ isIn [] m = eqb m 255
 isIn (n ∷ ns) m = eqb m n || isIn ns m
 
 form-in : (n : ℕ) (s : List ℕ) → form n s ≡ true → isIn numbers n ≡ true
-unfolding isIn numbers all
-form-in n s e = let r = form-kind n s e (λ r. isIn numbers (r .number)) refl in ap (isIn numbers) (r .1) ∙ r .3
+unfolding form shape isIn numbers all
+form-in n s e =
+    let r = kind-of (λ r. r .shape s) (λ r. isIn numbers (r .number)) table n (and-l (shape n s) (leb (length s) 255) e) refl in ap (isIn numbers) (r .1) ∙ r .3
 
 form-full : (n : ℕ) (s : List ℕ) → form n s ≡ true → isEmpty s ≡ false
-unfolding isil isilOf upTo past all setInfo alternative carriable wellFormed named summed
-form-full n [] e = let r = form-kind n [] e (λ r. not (r .shape [])) refl in never (cc (r .2, r .3))
+unfolding form shape isil isilOf upTo past all setInfo alternative carriable wellFormed named summed
+form-full n [] e = let r = kind-of (λ r. r .shape []) (λ r. not (r .shape [])) table n (and-l (shape n []) true e) refl in never (cc (r .2, r .3))
 form-full n (x ∷ s) e = refl
 
 -- ---- entries in order

@@ -69,15 +69,7 @@ module _ (c : Content) (s : sound c ≡ true) (j : length (joined (c .carried)) 
       let k = sound-parts c s in
       let a : List Entry = entriesAt numbers (c .slots) in
       let b : List Entry = carriedEntries (c .carried) in
-      omega (
-        arith,
-        length-sheet (a ++ b),
-        length-append a b,
-        bodies-append a b,
-        slots-total numbers (c .slots) (k .values),
-        carried-total (c .carried),
-        carried-count (c .carried) (k .blocks),
-      )
+      omega (arith, length-sheet (a ++ b), length-append a b, bodies-append a b, slots-total numbers (c .slots) (k .values), carried-total (c .carried), carried-count (c .carried) (k .blocks))
 
   -- so no offset passes 65,535
   pub content-fitting : fitting (entries c) ≡ true

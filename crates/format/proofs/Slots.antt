@@ -11,7 +11,7 @@ use lib.ListN.{length, getD, set}
 use lib.Seq.{set-set, set-getD}
 use borrow.Author.Tests.{eqb-true, ltb-true}
 use Rattle.format.specs.Bytes.{if_then_else_, isEmpty, all}
-use Rattle.format.specs.Elements.{Content, Kind, table, kindIs, numbers, placeIn, place, known, el, put, shape, form, value, clash, valuesAt, sound}
+use Rattle.format.specs.Elements.{Content, Kind, kindIs, numbers, placeIn, place, known, el, put, shape, form, value, clash, valuesAt, sound}
 use Rattle.format.specs.Fields.{long}
 use Rattle.format.specs.Chain.{carriable}
 use Rattle.format.proofs.Tests.{never, and-l, and-r, and-i, not-t, or-false, if-inv, same-truth, all-mono, bytes-at}
@@ -60,10 +60,6 @@ kind-of f g (r ∷ rs) n e a = elim (if-inv (eqb n (r .number)) (f r) (kindIs f 
   | inl q ↦ (r, eqb-true n (r .number) (q .0), q .1, and-l (g r) (all g rs) a)
   | inr q ↦ kind-of f g rs n (q .1) (and-r (g r) (all g rs) a)
 ]
-
-pub form-kind : (n : ℕ) (s : List ℕ) → form n s ≡ true → (g : Kind → Bool) → all g table ≡ true → (r : Kind) × (n ≡ r .number) × (r .shape s ≡ true) × (g r ≡ true)
-unfolding form shape
-form-kind n s e g a = kind-of (λ r. r .shape s) g table n (and-l (shape n s) (leb (length s) 255) e) a
 
 -- ---- a sound content
 
