@@ -137,7 +137,6 @@ trim-drop zero [] = refl
 trim-drop zero (y ∷ ys) = refl
 trim-drop (suc x) r = refl
 
-
 -- stripping twice strips once
 pub trim-trim : (x : ℕ) (r : List ℕ) → strip r ≡ r → strip (trim x r) ≡ trim x r
 unfolding trim strip

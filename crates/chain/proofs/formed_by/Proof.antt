@@ -14,15 +14,9 @@ returns : tie.Need-returns
 unfolding formedBy
 returns c = rw (lt-leb 3 _ (c .if1 .taken))
 
-byte-at-requires : tie.Need-byte-at-requires
-byte-at-requires c κs = search needs
-
 returns-2 : tie.Need-returns-2
 unfolding formedBy
 returns-2 c = rw (le-leb 3 _ (c .before .before .if1 .left), ne-eqb _ _ (λ e. c .if2 .taken (c .before .byte-at .ensures .0 ∙ e)))
-
-id-of-requires : tie.Need-id-of-requires
-id-of-requires c κs = search needs
 
 -- the block is whole: its ID decides
 decided : (c : tie.After-id-of) → let a = c .before .before .before .before .before .args in
@@ -35,11 +29,8 @@ decided c =
 returns-3 : tie.Need-returns-3
 returns-3 c = sym (decided (c .before) ∙ rw (lt-leb _ 100 (c .if3 .taken)))
 
-damage-by-requires : tie.Need-damage-by-requires
-damage-by-requires c κs = search needs
-
 returns-4 : tie.Need-returns-4
 returns-4 c = sym (decided (c .before .before) ∙ rw (le-leb _ 100 (c .before .if3 .left), ← (and-no (eqb (c .before .before .id-of .result) 1) false refl), ← (c .damage-by .ensures)))
 
 pub formed-by-spec : {M : Type 1} → statement M
-formed-by-spec = tie.close (tie.spec returns byte-at-requires returns-2 id-of-requires returns-3 damage-by-requires returns-4)
+formed-by-spec = tie.close (tie.spec returns (λ c κs. search needs) returns-2 (λ c κs. search needs) returns-3 (λ c κs. search needs) returns-4)

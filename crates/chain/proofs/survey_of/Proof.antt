@@ -193,25 +193,10 @@ left-rightly c =
 chain-holds : tie.Need-chain-holds Inv-loop μ-loop Inv-chain μ-chain
 chain-holds c = (refl, start (c .before .args .tag .now))
 
-block-at-requires : tie.Need-block-at-requires Inv-loop μ-loop Inv-chain μ-chain
-block-at-requires c κs = search needs
-
-byte-at-requires : tie.Need-byte-at-requires Inv-loop μ-loop Inv-chain μ-chain
-byte-at-requires c κs = search needs
-
-add-at : tie.Need-add-at Inv-loop μ-loop Inv-chain μ-chain
-add-at c = search needs
-
-chain-less : tie.Need-chain-less Inv-loop μ-loop Inv-chain μ-chain
-chain-less c = search needs
-
 chain-again : tie.Need-chain-again Inv-loop μ-loop Inv-chain μ-chain
 chain-again c =
     let i = c .before .before .before .before .before .chain .inv in
     (i .0, filler (c .before .before .before .before .before .before .before .args .tag .now) _ _ _ _ (i .1) (sym (c .before .before .byte-at .ensures .0) ∙ c .if2 .taken))
-
-id-of-requires : tie.Need-id-of-requires Inv-loop μ-loop Inv-chain μ-chain
-id-of-requires c κs = search needs
 
 loop-holds : tie.Need-loop-holds Inv-loop μ-loop Inv-chain μ-chain
 loop-holds c =
@@ -220,22 +205,10 @@ loop-holds c =
     omega (arith, ap length (is d), length-take (getD (tag d) (at d) 0) (drop (at d) (tag d)), length-drop (at d) (tag d), three d, d .before .before .before .before .before .before .chain-test .taken) in
     (turn d .chain .inv .0, refl, one)
 
-shared-slice-read-x : tie.Need-shared-slice-read-x Inv-loop μ-loop Inv-chain μ-chain
-shared-slice-read-x c = search needs
-
-add-k : tie.Need-add-k Inv-loop μ-loop Inv-chain μ-chain
-add-k c = search needs
-
-loop-less : tie.Need-loop-less Inv-loop μ-loop Inv-chain μ-chain
-loop-less c = search needs
-
 loop-again : tie.Need-loop-again Inv-loop μ-loop Inv-chain μ-chain
 loop-again c =
     let l = c .before .before .before .loop in
     (l .inv .0, xor-more (c .before .before .before .before .before .before .before .before .before .before .block-at .result .now) (l .k) (l .x) (c .before .if5 .left) (l .inv .1), omega (arith, c .before .if5 .left))
-
-damage-by-requires : tie.Need-damage-by-requires Inv-loop μ-loop Inv-chain μ-chain
-damage-by-requires c κs = search needs
 
 add-count : tie.Need-add-count Inv-loop μ-loop Inv-chain μ-chain
 add-count c = let j = judged (c .before) in omega (arith, turn j .chain .inv .1 .room, turn j .chain .inv .1 .fewer)
@@ -270,28 +243,6 @@ returns-2 c = sym (harmed (c .before .chain-test .number) _ _ _ refl (c .if9 .le
 pub survey-of-spec : {M : Type 1} → statement M
 survey-of-spec =
     tie.close
-    (tie.spec
-    Inv-loop
-    μ-loop
-    Inv-chain
-    μ-chain
-    chain-holds
-    block-at-requires
-    byte-at-requires
-    add-at
-    chain-less
-    chain-again
-    id-of-requires
-    loop-holds
-    shared-slice-read-x
-    add-k
-    loop-less
-    loop-again
-    damage-by-requires
-    add-count
-    add-size
-    add-at-2
-    chain-less-2
-    chain-again-2
-    returns
-    returns-2)
+    (tie.spec Inv-loop μ-loop Inv-chain μ-chain chain-holds (λ c κs. search needs) (λ c κs. search needs) (λ c. search needs) (λ c. search needs) chain-again
+    (λ c κs. search needs) loop-holds (λ c. search needs) (λ c. search needs) (λ c. search needs) loop-again (λ c κs. search needs) add-count add-size add-at-2
+    chain-less-2 chain-again-2 returns returns-2)

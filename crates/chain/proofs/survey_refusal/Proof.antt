@@ -7,17 +7,8 @@ use Rattle.chain.specs.Survey.{surveyGiven}
 use Rattle.chain.proofs.survey_refusal.Statement.{statement}
 use Rattle.chain.proofs.survey_refusal.Tie as tie
 
-enum-told : tie.Need-enum-told
-enum-told c = search needs
-
-enum-known-survey : tie.Need-enum-known-survey
-enum-known-survey c = search needs
-
-returns : tie.Need-returns
-returns c = search needs
-
 returns-2 : tie.Need-returns-2
 returns-2 c = sym (ap (λ (s : Survey). refusalOf (surveyGiven s)) (c .before .survey .given .1))
 
 pub survey-refusal-spec : {M : Type 1} → statement M
-survey-refusal-spec = tie.close (tie.spec enum-told enum-known-survey returns returns-2)
+survey-refusal-spec = tie.close (tie.spec (λ c. search needs) (λ c. search needs) (λ c. search needs) returns-2)

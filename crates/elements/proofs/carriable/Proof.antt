@@ -19,27 +19,9 @@ returns : tie.Need-returns
 unfolding carriable wellFormed
 returns c = rw (lt-leb 3 _ (c .if1 .taken))
 
-id-of-requires : tie.Need-id-of-requires
-id-of-requires c κs = search needs
-
 returns-2 : tie.Need-returns-2
 unfolding carriable
 returns-2 c = sym (and-no (wellFormed (c .before .before .before .before .args .block .now)) _ (rw (eq-eqb _ 1 (sym (c .before .id-of .ensures) ∙ c .if2 .taken))))
-
-sub-xor-of : tie.Need-sub-xor-of
-sub-xor-of c = search needs
-
-part-xor-of-start : tie.Need-part-xor-of-start
-part-xor-of-start c = search needs
-
-part-xor-of-end : tie.Need-part-xor-of-end
-part-xor-of-end c = search needs
-
-xor-of-requires : tie.Need-xor-of-requires
-xor-of-requires c κs = search needs
-
-formed-by-requires : tie.Need-formed-by-requires
-formed-by-requires c κs = search needs
 
 returns-3 : tie.Need-returns-3
 unfolding carriable
@@ -53,13 +35,5 @@ returns-3 c =
 pub carriable-spec : {M : Type 1} → statement M
 carriable-spec =
     tie.close
-    (tie.spec
-    returns
-    id-of-requires
-    returns-2
-    sub-xor-of
-    part-xor-of-start
-    part-xor-of-end
-    xor-of-requires
-    formed-by-requires
+    (tie.spec returns (λ c κs. search needs) returns-2 (λ c. search needs) (λ c. search needs) (λ c. search needs) (λ c κs. search needs) (λ c κs. search needs)
     returns-3)

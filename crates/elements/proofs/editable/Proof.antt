@@ -8,9 +8,6 @@ use Rattle.elements.proofs.Numbers.{unknown-refused, removing, setting}
 use Rattle.elements.proofs.editable.Statement.{statement}
 use Rattle.elements.proofs.editable.Tie as tie
 
-known-requires : tie.Need-known-requires
-known-requires c κs = search needs
-
 returns : tie.Need-returns
 returns c =
     let a = c .before .before .before .args in
@@ -31,9 +28,6 @@ returns-3 c =
     let four = eq-eqb (a .number) 4 (c .if3 .left) in
     ap not four ∙ (rw four at (removing (a .number) (a .bytes .now) (is-known (c .before .before)) (c .before .if2 .taken)))
 
-has-form-requires : tie.Need-has-form-requires
-has-form-requires c κs = search needs
-
 returns-4 : tie.Need-returns-4
 returns-4 c =
     let a = c .before .before .before .before .before .args in
@@ -41,4 +35,4 @@ returns-4 c =
 
 pub editable-spec : {M : Type 1} → statement M
 editable-spec =
-    tie.close (tie.spec known-requires returns returns-2 returns-3 has-form-requires returns-4)
+    tie.close (tie.spec (λ c κs. search needs) returns returns-2 returns-3 (λ c κs. search needs) returns-4)

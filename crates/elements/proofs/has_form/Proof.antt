@@ -8,11 +8,8 @@ use Rattle.elements.proofs.has_form.Tie as tie
 returns : tie.Need-returns
 returns c = form-long _ _ (c .if1 .taken)
 
-shaped-requires : tie.Need-shaped-requires
-shaped-requires c κs = search needs
-
 returns-2 : tie.Need-returns-2
 returns-2 c = c .shaped .ensures ∙ form-short _ _ (c .before .if1 .left)
 
 pub has-form-spec : {M : Type 1} → statement M
-has-form-spec = tie.close (tie.spec returns shaped-requires returns-2)
+has-form-spec = tie.close (tie.spec returns (λ c κs. search needs) returns-2)

@@ -7,12 +7,9 @@ use Rattle.format.specs.Elements.{places, numbers, known}
 use Rattle.elements.proofs.known.Statement.{statement}
 use Rattle.elements.proofs.known.Tie as tie
 
-place-of-requires : tie.Need-place-of-requires
-place-of-requires c κs = search needs
-
 returns : tie.Need-returns
 unfolding known numbers
 returns c = ap (λ (k : ℕ). ltb k places) (c .place-of .ensures)
 
 pub known-spec : {M : Type 1} → statement M
-known-spec = tie.close (tie.spec place-of-requires returns)
+known-spec = tie.close (tie.spec (λ c κs. search needs) returns)

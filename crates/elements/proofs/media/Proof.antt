@@ -8,11 +8,8 @@ use Rattle.elements.proofs.media.Tie as tie
 returns : tie.Need-returns
 returns c = rw (ne-eqb _ 1 (c .if1 .taken)) refl
 
-shared-slice-read-result : tie.Need-shared-slice-read-result
-shared-slice-read-result c = search needs
-
 returns-2 : tie.Need-returns-2
 returns-2 c = rw (eq-eqb _ 1 (c .before .if1 .left)) refl
 
 pub media-spec : {M : Type 1} → statement M
-media-spec = tie.close (tie.spec returns shared-slice-read-result returns-2)
+media-spec = tie.close (tie.spec returns (λ c. search needs) returns-2)

@@ -21,24 +21,6 @@ returns : tie.Need-returns
 unfolding setInfo
 returns c = simp (ne-eqb _ 4 (c .if1 .taken))
 
-shared-slice-read-word : tie.Need-shared-slice-read-word
-shared-slice-read-word c = search needs
-
-shared-slice-read-word-2 : tie.Need-shared-slice-read-word-2
-shared-slice-read-word-2 c = search needs
-
-word-requires : tie.Need-word-requires
-word-requires c κs = search needs
-
-shared-slice-read-word-3 : tie.Need-shared-slice-read-word-3
-shared-slice-read-word-3 c = search needs
-
-shared-slice-read-word-4 : tie.Need-shared-slice-read-word-4
-shared-slice-read-word-4 c = search needs
-
-word-requires-2 : tie.Need-word-requires-2
-word-requires-2 c κs = search needs
-
 decided : (c : tie.After-word2) → let a = c .before .before .before .before .before .before .before .before .args in
     let p = c .before .before .before .word .result in
     let q = c .word2 .result in
@@ -57,14 +39,5 @@ returns-4 c = rw (le-leb _ 255 (c .before .if2 .left), le-leb _ 255 (c .if3 .lef
 pub set-info-spec : {M : Type 1} → statement M
 set-info-spec =
     tie.close
-    (tie.spec
-    returns
-    shared-slice-read-word
-    shared-slice-read-word-2
-    word-requires
-    shared-slice-read-word-3
-    shared-slice-read-word-4
-    word-requires-2
-    returns-2
-    returns-3
+    (tie.spec returns (λ c. search needs) (λ c. search needs) (λ c κs. search needs) (λ c. search needs) (λ c. search needs) (λ c κs. search needs) returns-2 returns-3
     returns-4)

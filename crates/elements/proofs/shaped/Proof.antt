@@ -13,24 +13,6 @@ use Rattle.elements.proofs.shaped.Tie as tie
 shape-of : {n m : ℕ} (s : List ℕ) → n ≡ m → shape m s ≡ shape n s
 shape-of s e = ap (λ (k : ℕ). shape k s) (sym e)
 
-some-text-requires : tie.Need-some-text-requires
-some-text-requires c κs = search needs
-
-isil-requires : tie.Need-isil-requires
-isil-requires c κs = search needs
-
-set-info-requires : tie.Need-set-info-requires
-set-info-requires c κs = search needs
-
-media-requires : tie.Need-media-requires
-media-requires c κs = search needs
-
-alternative-requires : tie.Need-alternative-requires
-alternative-requires c κs = search needs
-
-carriable-requires : tie.Need-carriable-requires
-carriable-requires c κs = search needs
-
 returns : tie.Need-returns
 unfolding shape
 returns c = c .some-text .ensures ∙ ⊎-elim (λ e. shape-of (c .before .before .before .args .s .now) e) (λ e. shape-of (c .before .before .before .args .s .now) e) (c .before .match .keys1)
@@ -67,18 +49,5 @@ returns-8 c =
 pub shaped-spec : {M : Type 1} → statement M
 shaped-spec =
     tie.close
-    (tie.spec
-    some-text-requires
-    isil-requires
-    set-info-requires
-    media-requires
-    alternative-requires
-    carriable-requires
-    returns
-    returns-2
-    returns-3
-    returns-4
-    returns-5
-    returns-6
-    returns-7
-    returns-8)
+    (tie.spec (λ c κs. search needs) (λ c κs. search needs) (λ c κs. search needs) (λ c κs. search needs) (λ c κs. search needs) (λ c κs. search needs) returns returns-2
+    returns-3 returns-4 returns-5 returns-6 returns-7 returns-8)

@@ -7,11 +7,8 @@ use Rattle.elements.proofs.some_text.Tie as tie
 returns : tie.Need-returns
 returns c = rw (is-empty (c .before .before .args .s .now) (c .if1 .taken))
 
-is-text-requires : tie.Need-is-text-requires
-is-text-requires c κs = search needs
-
 returns-2 : tie.Need-returns-2
 returns-2 c = rw (not-empty (c .before .before .before .args .s .now) (c .before .if1 .left)) (c .is-text .ensures)
 
 pub some-text-spec : {M : Type 1} → statement M
-some-text-spec = tie.close (tie.spec returns is-text-requires returns-2)
+some-text-spec = tie.close (tie.spec returns (λ c κs. search needs) returns-2)

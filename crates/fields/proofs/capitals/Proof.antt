@@ -38,6 +38,4 @@ returns-2 c = passing-all capital (c .before .before .before .args .s .now) (c .
 
 pub capitals-spec : {M : Type 1} → statement M
 capitals-spec =
-    tie.close
-    (tie.spec Inv-loop μ-loop loop-holds (λ c. search needs) (λ c κs. search needs) returns (λ c. search needs) (λ c. search needs) loop-again
-    returns-2)
+    tie.close (tie.spec Inv-loop μ-loop loop-holds (λ c. search needs) (λ c κs. search needs) returns (λ c. search needs) (λ c. search needs) loop-again returns-2)

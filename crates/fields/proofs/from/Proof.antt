@@ -19,6 +19,4 @@ returns-2 c = sym (drop-of-length-le (c .before .before .args .s .now) (c .befor
 
 pub from-spec : {M : Type 1} → statement M
 from-spec =
-    tie.close
-    (tie.spec (λ c. search needs) (λ c. search needs) (λ c. search needs) (λ c. search needs) (λ c. search needs) (λ c. search needs) returns
-    returns-2)
+    tie.close (tie.spec (λ c. search needs) (λ c. search needs) (λ c. search needs) (λ c. search needs) (λ c. search needs) (λ c. search needs) returns returns-2)

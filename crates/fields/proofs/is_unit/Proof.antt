@@ -56,5 +56,4 @@ returns-6 c = sym (other (c .before .before) ∙ simp (ne-eqb _ _ (c .before .if
 
 pub is-unit-spec : {M : Type 1} → statement M
 is-unit-spec =
-    tie.close
-    (tie.spec (λ c κs. search needs) returns (λ c κs. search needs) returns-2 (λ c κs. search needs) returns-3 returns-4 returns-5 returns-6)
+    tie.close (tie.spec (λ c κs. search needs) returns (λ c κs. search needs) returns-2 (λ c κs. search needs) returns-3 returns-4 returns-5 returns-6)

@@ -94,6 +94,5 @@ returns-5 c =
 pub owner-in-spec : {M : Type 1} → statement M
 owner-in-spec =
     tie.close
-    (tie.spec (λ c κs. search needs) (λ c κs. search needs) (λ c κs. search needs) (λ c κs. search needs) returns (λ c κs. search needs)
-    (λ c κs. search needs) (λ c κs. search needs) returns-2 returns-3 (λ c κs. search needs) (λ c κs. search needs) (λ c κs. search needs) returns-4
-    returns-5)
+    (tie.spec (λ c κs. search needs) (λ c κs. search needs) (λ c κs. search needs) (λ c κs. search needs) returns (λ c κs. search needs) (λ c κs. search needs)
+    (λ c κs. search needs) returns-2 returns-3 (λ c κs. search needs) (λ c κs. search needs) (λ c κs. search needs) returns-4 returns-5)

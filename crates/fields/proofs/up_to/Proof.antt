@@ -34,5 +34,4 @@ returns c =
 
 pub up-to-spec : {M : Type 1} → statement M
 up-to-spec =
-    tie.close
-    (tie.spec Inv-loop μ-loop loop-holds (λ c. search needs) (λ c. search needs) (λ c. search needs) loop-again (λ c κs. search needs) returns)
+    tie.close (tie.spec Inv-loop μ-loop loop-holds (λ c. search needs) (λ c. search needs) (λ c. search needs) loop-again (λ c κs. search needs) returns)

@@ -11,20 +11,8 @@ use Rattle.image.proofs.Placing.{clash-lengths}
 use Rattle.image.proofs.clashing.Statement.{statement}
 use Rattle.image.proofs.clashing.Tie as tie
 
-element-copy-out-if1 : tie.Need-element-copy-out-if1
-element-copy-out-if1 c = search needs
-
-element-copy-out-if2 : tie.Need-element-copy-out-if2
-element-copy-out-if2 c = search needs
-
 returns : tie.Need-returns
 returns c = λ ss s. sym (clash-lengths ss _ s ∙ rw (ne-eqb _ 0 (c .before .before .if1 .taken), ne-eqb _ 0 (c .if2 .taken)))
-
-element-copy-out-if3 : tie.Need-element-copy-out-if3
-element-copy-out-if3 c = search needs
-
-element-copy-out-result : tie.Need-element-copy-out-result
-element-copy-out-result c = search needs
 
 -- no ISIL beside an alternative owner
 apart : (c : tie.Joined1) → let lens = c .before .before .args .lens .now in not (eqb (getD lens 1 0) 0) && not (eqb (getD lens 6 0) 0) ≡ false
@@ -40,12 +28,4 @@ returns-3 c = λ ss s. sym (clash-lengths ss _ s ∙ rw (apart (c .before .befor
 
 pub clashing-spec : {M : Type 1} → statement M
 clashing-spec =
-    tie.close
-    (tie.spec
-    element-copy-out-if1
-    element-copy-out-if2
-    returns
-    element-copy-out-if3
-    element-copy-out-result
-    returns-2
-    returns-3)
+    tie.close (tie.spec (λ c. search needs) (λ c. search needs) returns (λ c. search needs) (λ c. search needs) returns-2 returns-3)

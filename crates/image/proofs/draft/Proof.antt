@@ -47,8 +47,8 @@ to-owner c = c .before .before .before .before .before .before .before .before .
 
 fields : (c : tie.After-usage-behind) → let s = from-owner (to-owner c) in
     Fielded (s .args .src .now) (s .args .made .now)
-        (getD (s .args .ats .now) (c .before .before .before .before .before .before .before .before .before .before .before .before .item-place .result) 0 ∷ getD (s .args .ats .now) (c .before .before .before .before .before .before .before .before .before .before .before .owner-place .result) 0 ∷ getD (s .args .ats .now) 3 0 ∷ [])
-        (getD (s .args .lens .now) (c .before .before .before .before .before .before .before .before .before .before .before .before .item-place .result) 0 ∷ c .before .before .before .before .before .owner-behind .result ∷ c .usage-behind .result ∷ []) (library (n s) (ss (s .pre)))
+    (getD (s .args .ats .now) (c .before .before .before .before .before .before .before .before .before .before .before .before .item-place .result) 0 ∷ getD (s .args .ats .now) (c .before .before .before .before .before .before .before .before .before .before .before .owner-place .result) 0 ∷ getD (s .args .ats .now) 3 0 ∷ [])
+    (getD (s .args .lens .now) (c .before .before .before .before .before .before .before .before .before .before .before .before .item-place .result) 0 ∷ c .before .before .before .before .before .owner-behind .result ∷ c .usage-behind .result ∷ []) (library (n s) (ss (s .pre)))
 unfolding library numbers placeIn place
 fields c =
     let s = from-owner (to-owner c) in
@@ -178,39 +178,17 @@ returns-3 c =
 pub draft-spec : {M : Type 1} → statement M
 draft-spec =
     tie.close
-    (tie.spec
-    (λ c κs. search needs)
-    returns
-    (λ c κs. search needs)
-    (λ c κs. search needs)
+    (tie.spec (λ c κs. search needs) returns (λ c κs. search needs) (λ c κs. search needs)
     (λ c κs. stands (c .before .before .before .before .before .before .before .before .pre) _ (c .owner-place .ensures .0))
-    (λ c κs. stands (from-owner c .pre) 3 (omega arith))
-    shared-slice-read-usage
-    (λ c κs. stands (from-owner (c .before .before) .pre) 4 (omega arith))
-    (λ c κs. search needs)
-    (λ c κs. (owner-fine (c .before .before .before .before), omega (arith, from-owner (c .before .before .before .before) .pre .size)))
+    (λ c κs. stands (from-owner c .pre) 3 (omega arith)) shared-slice-read-usage (λ c κs. stands (from-owner (c .before .before) .pre) 4 (omega arith))
+    (λ c κs. search needs) (λ c κs. (owner-fine (c .before .before .before .before), omega (arith, from-owner (c .before .before .before .before) .pre .size)))
     (λ c. omega (arith, c .before .before .before .before .before .before .before .item-place .ensures .0))
     (λ c. c .before .before .before .before .before .before .before .item-place .ensures .0)
     (λ c. omega (arith, c .before .before .before .before .before .before .before .owner-place .ensures .0))
-    (λ c. c .before .before .before .before .before .before .before .owner-place .ensures .0)
-    (λ c. search needs)
+    (λ c. c .before .before .before .before .before .before .before .owner-place .ensures .0) (λ c. search needs)
     (λ c. omega (arith, c .before .before .before .before .before .before .before .before .before .before .item-place .ensures .0))
-    (λ c. c .before .before .before .before .before .before .before .before .before .before .item-place .ensures .0)
-    (λ c κs. search needs)
-    (λ c. refl)
-    (λ c κs. fields (c .before) .few)
-    (λ c κs. from-size c .pre .size)
-    returns-2
-    (λ c κs. stands (from-size (c .before .before .before) .pre) 0 (omega arith))
-    (λ c κs. stands (from-size (c .before .before .before .before) .pre) 2 (omega arith))
-    put-front-requires
-    put-owner-requires
-    (λ c κs. omega (arith, ready (c .before .before .before .before .before .before) .least))
-    (λ c. search needs)
-    (λ c. refl)
-    (λ c. refl)
-    put-library-requires
-    add-put-bytes
-    put-bytes-requires
-    same-length
-    returns-3)
+    (λ c. c .before .before .before .before .before .before .before .before .before .before .item-place .ensures .0) (λ c κs. search needs) (λ c. refl)
+    (λ c κs. fields (c .before) .few) (λ c κs. from-size c .pre .size) returns-2 (λ c κs. stands (from-size (c .before .before .before) .pre) 0 (omega arith))
+    (λ c κs. stands (from-size (c .before .before .before .before) .pre) 2 (omega arith)) put-front-requires put-owner-requires
+    (λ c κs. omega (arith, ready (c .before .before .before .before .before .before) .least)) (λ c. search needs) (λ c. refl) (λ c. refl) put-library-requires
+    add-put-bytes put-bytes-requires same-length returns-3)

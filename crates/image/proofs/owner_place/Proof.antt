@@ -4,9 +4,6 @@ use Rattle.image.proofs.Placing.{owner-other, owner-isil}
 use Rattle.image.proofs.owner_place.Statement.{statement}
 use Rattle.image.proofs.owner_place.Tie as tie
 
-element-copy-out-if1 : tie.Need-element-copy-out-if1
-element-copy-out-if1 c = search needs
-
 returns : tie.Need-returns
 returns c = (search needs, λ ss s. owner-other ss _ s (c .if1 .taken))
 
@@ -14,4 +11,4 @@ returns-2 : tie.Need-returns-2
 returns-2 c = (search needs, λ ss s. owner-isil ss _ s (c .if1 .left))
 
 pub owner-place-spec : {M : Type 1} → statement M
-owner-place-spec = tie.close (tie.spec element-copy-out-if1 returns returns-2)
+owner-place-spec = tie.close (tie.spec (λ c. search needs) returns returns-2)

@@ -25,36 +25,9 @@ returns : tie.Need-returns
 unfolding sealing
 returns c = rw (lt-leb 21 _ (c .if1 .taken))
 
-of-tag-requires : tie.Need-of-tag-requires
-of-tag-requires c κs = search needs
-
-cast-draft : tie.Need-cast-draft
-cast-draft c = search needs
-
-slice-write-draft : tie.Need-slice-write-draft
-slice-write-draft c = search needs
-
-cast-draft-2 : tie.Need-cast-draft-2
-cast-draft-2 c = search needs
-
-slice-write-draft-2 : tie.Need-slice-write-draft-2
-slice-write-draft-2 c = search needs
-
-same-length : tie.Need-same-length
-same-length c = search needs
-
 returns-2 : tie.Need-returns-2
 returns-2 c = let e = c .before .before in sealed (e .before .before .args .draft .now) _ (e .if1 .left) (omega arith) (c .of-tag .ensures)
 
 pub seal-spec : {M : Type 1} → statement M
 seal-spec =
-    tie.close
-    (tie.spec
-    returns
-    of-tag-requires
-    cast-draft
-    slice-write-draft
-    cast-draft-2
-    slice-write-draft-2
-    same-length
-    returns-2)
+    tie.close (tie.spec returns (λ c κs. search needs) (λ c. search needs) (λ c. search needs) (λ c. search needs) (λ c. search needs) (λ c. search needs) returns-2)

@@ -86,9 +86,8 @@ returns-5 c =
 pub look-at-spec : {M : Type 1} → statement M
 look-at-spec =
     tie.close
-    (tie.spec (λ c κs. search needs) (λ c. search needs) (λ c. search needs) (λ c κs. search needs) returns (λ c κs. search needs)
-    (λ c. search needs) (λ c. search needs) (λ c κs. search needs) returns-2
-    (λ c κs. let b = past-basic c in (begun-size (at-start b .args .tag .now) (begun b), whole c .library)) (λ c. search needs) (λ c. search needs)
-    (λ c κs. search needs) returns-3 (λ c κs. found c) (λ c. search needs) (λ c. search needs) (λ c κs. search needs) returns-4
+    (tie.spec (λ c κs. search needs) (λ c. search needs) (λ c. search needs) (λ c κs. search needs) returns (λ c κs. search needs) (λ c. search needs)
+    (λ c. search needs) (λ c κs. search needs) returns-2 (λ c κs. let b = past-basic c in (begun-size (at-start b .args .tag .now) (begun b), whole c .library))
+    (λ c. search needs) (λ c. search needs) (λ c κs. search needs) returns-3 (λ c κs. found c) (λ c. search needs) (λ c. search needs) (λ c κs. search needs) returns-4
     (λ c κs. let f = past-fields (c .before .before .before) in row-lies _ _ (whole (past-survey f) .library) _ _ _ (found f))
     (λ c κs. let f = past-fields (c .before .before .before .before) in omega (arith, whole (past-survey f) .room, found f .sized .most)) returns-5)

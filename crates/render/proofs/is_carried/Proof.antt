@@ -5,11 +5,8 @@ use lib.Dec.{ltb}
 use Rattle.render.proofs.is_carried.Statement.{statement}
 use Rattle.render.proofs.is_carried.Tie as tie
 
-id-of-requires : tie.Need-id-of-requires
-id-of-requires c κs = search needs
-
 returns : tie.Need-returns
 returns c = ap (ltb 1) (c .id-of .ensures)
 
 pub is-carried-spec : {M : Type 1} → statement M
-is-carried-spec = tie.close (tie.spec id-of-requires returns)
+is-carried-spec = tie.close (tie.spec (λ c κs. search needs) returns)

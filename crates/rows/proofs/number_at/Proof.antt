@@ -6,9 +6,6 @@ use Rattle.format.specs.Elements.{numbers}
 use Rattle.rows.proofs.number_at.Statement.{statement}
 use Rattle.rows.proofs.number_at.Tie as tie
 
-array-read-result : tie.Need-array-read-result
-array-read-result c = search needs
-
 returns : tie.Need-returns
 unfolding numbers
 returns c = refl
@@ -18,4 +15,4 @@ unfolding numbers
 returns-2 c = sym (List·getD-eq-default numbers 0 (c .if1 .left))
 
 pub number-at-spec : {M : Type 1} → statement M
-number-at-spec = tie.close (tie.spec array-read-result returns returns-2)
+number-at-spec = tie.close (tie.spec (λ c. search needs) returns returns-2)

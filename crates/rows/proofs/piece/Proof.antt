@@ -17,12 +17,6 @@ behind c = let a = c .before .args in in-made (a .src .now) (a .made .now) (a .a
 add-end : tie.Need-add-end
 add-end c = record { fits = omega (arith, before c, c .before .good .0 .0) }
 
-sub-result : tie.Need-sub-result
-sub-result c = search needs
-
-part-result-start : tie.Need-part-result-start
-part-result-start c = search needs
-
 part-result-end : tie.Need-part-result-end
 part-result-end c = before c
 
@@ -32,12 +26,6 @@ returns c = let a = c .before .before .args in source-part (a .src .now) (a .mad
 add-stop : tie.Need-add-stop
 add-stop c = record { fits = omega (arith, behind c, c .before .good .1 .0 .0) }
 
-sub-result-2 : tie.Need-sub-result-2
-sub-result-2 c = search needs
-
-part-result-start-2 : tie.Need-part-result-start-2
-part-result-start-2 c = search needs
-
 part-result-end-2 : tie.Need-part-result-end-2
 part-result-end-2 c = behind c
 
@@ -45,4 +33,4 @@ returns-2 : tie.Need-returns-2
 returns-2 c = let a = c .before .before .args in made-part (a .src .now) (a .made .now) (a .at) (a .len) (c .before .before .pre) (c .before .if1 .left)
 
 pub piece-spec : {M : Type 1} → statement M
-piece-spec = tie.close (tie.spec add-end sub-result part-result-start part-result-end returns add-stop sub-result-2 part-result-start-2 part-result-end-2 returns-2)
+piece-spec = tie.close (tie.spec add-end (λ c. search needs) (λ c. search needs) part-result-end returns add-stop (λ c. search needs) (λ c. search needs) part-result-end-2 returns-2)

@@ -15,46 +15,10 @@ Inv-loop sheet count ats₀ lens₀ at₀ next₀ k₀ ats lens at next k = Fill
 abbrev μ-loop : tie.MeasureT-loop
 μ-loop sheet count ats₀ lens₀ at₀ next₀ k₀ ats lens at next k = places - k
 
-mul-at : tie.Need-mul-at Inv-loop μ-loop
-mul-at c = search needs
-
-add-at : tie.Need-add-at Inv-loop μ-loop
-add-at c = search needs
-
 loop-holds : tie.Need-loop-holds Inv-loop μ-loop
 loop-holds c =
     let k = c .before .before .before in
     rw (k .pre .0 .counted) (filling-start (k .args .sheet .now) (k .args .ats .now) (k .args .lens .now) (k .pre .0 .right) (k .pre .1) (k .pre .2))
-
-mul-ats : tie.Need-mul-ats Inv-loop μ-loop
-mul-ats c = search needs
-
-slice-write-ats : tie.Need-slice-write-ats Inv-loop μ-loop
-slice-write-ats c = search needs
-
-head-at-requires : tie.Need-head-at-requires Inv-loop μ-loop
-head-at-requires c κs = search needs
-
-number-at-requires : tie.Need-number-at-requires Inv-loop μ-loop
-number-at-requires c κs = search needs
-
-add-at-2 : tie.Need-add-at-2 Inv-loop μ-loop
-add-at-2 c = search needs
-
-add-next : tie.Need-add-next Inv-loop μ-loop
-add-next c = search needs
-
-mul-lens : tie.Need-mul-lens Inv-loop μ-loop
-mul-lens c = search needs
-
-slice-write-lens : tie.Need-slice-write-lens Inv-loop μ-loop
-slice-write-lens c = search needs
-
-add-k : tie.Need-add-k Inv-loop μ-loop
-add-k c = search needs
-
-loop-less : tie.Need-loop-less Inv-loop μ-loop
-loop-less c = search needs
 
 -- the next entry has this number, or another, or there is none
 loop-again : tie.Need-loop-again Inv-loop μ-loop
@@ -66,35 +30,12 @@ loop-again c =
     (λ w. rw (w .1, w .2, w .3) (filling-none f place (omega arith))))
     (c .if1 .came)
 
-same-length : tie.Need-same-length Inv-loop μ-loop
-same-length c = search needs
-
-same-length-2 : tie.Need-same-length-2 Inv-loop μ-loop
-same-length-2 c = search needs
-
 returns : tie.Need-returns Inv-loop μ-loop
 returns c = filling-end (c .before .loop .inv) (omega arith)
 
 pub fill-row-spec : {M : Type 1} → statement M
 fill-row-spec =
     tie.close
-    (tie.spec
-    Inv-loop
-    μ-loop
-    mul-at
-    add-at
-    loop-holds
-    mul-ats
-    slice-write-ats
-    head-at-requires
-    number-at-requires
-    add-at-2
-    add-next
-    mul-lens
-    slice-write-lens
-    add-k
-    loop-less
-    loop-again
-    same-length
-    same-length-2
-    returns)
+    (tie.spec Inv-loop μ-loop (λ c. search needs) (λ c. search needs) loop-holds (λ c. search needs) (λ c. search needs) (λ c κs. search needs) (λ c κs. search needs)
+    (λ c. search needs) (λ c. search needs) (λ c. search needs) (λ c. search needs) (λ c. search needs) (λ c. search needs) loop-again (λ c. search needs)
+    (λ c. search needs) returns)

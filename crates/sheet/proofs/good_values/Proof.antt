@@ -17,32 +17,11 @@ Inv-loop sheet count at₀ i₀ set₀ usage₀ at i set usage = Judging sheet i
 abbrev μ-loop : tie.MeasureT-loop
 μ-loop sheet count at₀ i₀ set₀ usage₀ at i set usage = count - i
 
-mul-at : tie.Need-mul-at Inv-loop μ-loop
-mul-at c = search needs
-
-add-at : tie.Need-add-at Inv-loop μ-loop
-add-at c = search needs
-
 loop-holds : tie.Need-loop-holds Inv-loop μ-loop
 loop-holds c = rw (c .before .pre .counted) (judging-start (c .before .args .sheet .now) (c .before .pre .right))
 
-head-at-requires : tie.Need-head-at-requires Inv-loop μ-loop
-head-at-requires c κs = search needs
-
-add-end : tie.Need-add-end Inv-loop μ-loop
-add-end c = search needs
-
-sub-formed : tie.Need-sub-formed Inv-loop μ-loop
-sub-formed c = search needs
-
-part-formed-start : tie.Need-part-formed-start Inv-loop μ-loop
-part-formed-start c = search needs
-
 part-formed-end : tie.Need-part-formed-end Inv-loop μ-loop
 part-formed-end c = let h = c .before in value-inside (h .before .before .loop .inv) (omega arith) (h .head-at .ensures)
-
-formed-requires : tie.Need-formed-requires Inv-loop μ-loop
-formed-requires c κs = search needs
 
 -- what is judged is the entry that comes
 judged : (c : tie.After-formed Inv-loop μ-loop) → let h = c .before .before .before in
@@ -57,12 +36,6 @@ returns : tie.Need-returns Inv-loop μ-loop
 returns c =
     let h = c .before .before .before .before in
     judging-not (h .before .before .loop .inv) (omega arith) (h .head-at .ensures) (sym (judged (c .before)) ∙ not-true _ (c .if1 .taken))
-
-add-i : tie.Need-add-i Inv-loop μ-loop
-add-i c = search needs
-
-loop-less : tie.Need-loop-less Inv-loop μ-loop
-loop-less c = search needs
 
 loop-again : tie.Need-loop-again Inv-loop μ-loop
 loop-again c =
@@ -79,21 +52,5 @@ returns-3 c = c .if2 .left ∙ (rw (c .if2 .left) at (judging-end (c .before .be
 pub good-values-spec : {M : Type 1} → statement M
 good-values-spec =
     tie.close
-    (tie.spec
-    Inv-loop
-    μ-loop
-    mul-at
-    add-at
-    loop-holds
-    head-at-requires
-    add-end
-    sub-formed
-    part-formed-start
-    part-formed-end
-    formed-requires
-    returns
-    add-i
-    loop-less
-    loop-again
-    returns-2
-    returns-3)
+    (tie.spec Inv-loop μ-loop (λ c. search needs) (λ c. search needs) loop-holds (λ c κs. search needs) (λ c. search needs) (λ c. search needs) (λ c. search needs)
+    part-formed-end (λ c κs. search needs) returns (λ c. search needs) (λ c. search needs) loop-again returns-2 returns-3)

@@ -19,15 +19,6 @@ abbrev μ-loop : tie.MeasureT-loop
 returns : tie.Need-returns Inv-loop μ-loop
 returns c = short-wrong (c .before .before .args .sheet .now) (omega arith)
 
-count-requires : tie.Need-count-requires Inv-loop μ-loop
-count-requires c κs = search needs
-
-mul-at : tie.Need-mul-at Inv-loop μ-loop
-mul-at c = search needs
-
-add-at : tie.Need-add-at Inv-loop μ-loop
-add-at c = search needs
-
 returns-2 : tie.Need-returns-2 Inv-loop μ-loop
 returns-2 c = short-wrong (c .before .before .before .before .args .sheet .now) (omega arith)
 
@@ -35,9 +26,6 @@ loop-holds : tie.Need-loop-holds Inv-loop μ-loop
 loop-holds c =
     let s = c .before .before .before .before .args .sheet .now in
     rw (c .before .count .ensures .0) (checking-start s (bytes-all s (λ i h. c .before .before .before .shared-slice-known .given i .fits)) (omega arith))
-
-head-at-requires : tie.Need-head-at-requires Inv-loop μ-loop
-head-at-requires c κs = search needs
 
 returns-3 : tie.Need-returns-3 Inv-loop μ-loop
 returns-3 c =
@@ -48,18 +36,6 @@ returns-4 : tie.Need-returns-4 Inv-loop μ-loop
 returns-4 c =
     let h = c .before .before .before .before in
     checking-offset (h .before .before .loop .inv) (omega arith) (h .head-at .ensures) (c .if4 .taken)
-
-add-at-2 : tie.Need-add-at-2 Inv-loop μ-loop
-add-at-2 c = search needs
-
-add-least : tie.Need-add-least Inv-loop μ-loop
-add-least c = search needs
-
-add-i : tie.Need-add-i Inv-loop μ-loop
-add-i c = search needs
-
-loop-less : tie.Need-loop-less Inv-loop μ-loop
-loop-less c = search needs
 
 loop-again : tie.Need-loop-again Inv-loop μ-loop
 unfolding least
@@ -75,21 +51,5 @@ returns-5 c = checking-end (c .before .loop .inv) (omega arith)
 pub right-spec : {M : Type 1} → statement M
 right-spec =
     tie.close
-    (tie.spec
-    Inv-loop
-    μ-loop
-    returns
-    count-requires
-    mul-at
-    add-at
-    returns-2
-    loop-holds
-    head-at-requires
-    returns-3
-    returns-4
-    add-at-2
-    add-least
-    add-i
-    loop-less
-    loop-again
-    returns-5)
+    (tie.spec Inv-loop μ-loop returns (λ c κs. search needs) (λ c. search needs) (λ c. search needs) returns-2 loop-holds (λ c κs. search needs) returns-3 returns-4
+    (λ c. search needs) (λ c. search needs) (λ c. search needs) (λ c. search needs) loop-again returns-5)

@@ -39,9 +39,6 @@ module _ (s ats lens : List ℕ) where
         lens-left = f .2 ∙ sym (afterwards-got _ (carriedAt s) (lensIn s) lens is);
       }
 
-right-requires : tie.Need-right-requires
-right-requires c κs = search needs
-
 returns : tie.Need-returns
 returns c =
     let a = c .before .before .before .args in
@@ -77,12 +74,4 @@ returns-3 c =
 
 pub scan-spec : {M : Type 1} → statement M
 scan-spec =
-    tie.close
-    (tie.spec
-    right-requires
-    returns
-    count-requires
-    good-values-requires
-    returns-2
-    fill-row-requires
-    returns-3)
+    tie.close (tie.spec (λ c κs. search needs) returns count-requires good-values-requires returns-2 fill-row-requires returns-3)

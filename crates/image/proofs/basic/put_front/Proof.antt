@@ -45,32 +45,14 @@ module _ (d item info : List ℕ) (usage : ℕ) (blank : Blank 0 d) (room : 19 �
   unmarked : (d′ : List ℕ) (r : ℕ) → length item ≤ 16 → stored d₃ 3 item r d′ → Ended d′
   unmarked d′ r h e = ended item d′ r (rw (lt-leb 17 (length item) (omega arith))) h (put begun item d′ r (omega (arith, e .0)) e)
 
-mul-draft : tie.Need-mul-draft
-mul-draft c = search needs
-
-add-draft : tie.Need-add-draft
-add-draft c = search needs
-
-slice-write-draft : tie.Need-slice-write-draft
-slice-write-draft c = search needs
-
-shared-slice-read-draft : tie.Need-shared-slice-read-draft
-shared-slice-read-draft c = search needs
-
 slice-write-draft-2 : tie.Need-slice-write-draft-2
 slice-write-draft-2 c = simp length-set (omega arith)
-
-shared-slice-read-draft-2 : tie.Need-shared-slice-read-draft-2
-shared-slice-read-draft-2 c = search needs
 
 slice-write-draft-3 : tie.Need-slice-write-draft-3
 slice-write-draft-3 c = simp length-set (omega arith)
 
 slice-write-draft-4 : tie.Need-slice-write-draft-4
 slice-write-draft-4 c = simp length-set (omega arith)
-
-same-length : tie.Need-same-length
-same-length c = search needs
 
 returns : tie.Need-returns
 returns c =
@@ -92,17 +74,5 @@ returns-2 c =
 pub put-front-spec : {M : Type 1} → statement M
 put-front-spec =
     tie.close
-    (tie.spec
-    mul-draft
-    add-draft
-    slice-write-draft
-    shared-slice-read-draft
-    slice-write-draft-2
-    shared-slice-read-draft-2
-    slice-write-draft-3
-    slice-write-draft-4
-    same-length
-    returns
-    put-bytes-requires
-    same-length-2
-    returns-2)
+    (tie.spec (λ c. search needs) (λ c. search needs) (λ c. search needs) (λ c. search needs) slice-write-draft-2 (λ c. search needs) slice-write-draft-3
+    slice-write-draft-4 (λ c. search needs) returns put-bytes-requires same-length-2 returns-2)

@@ -44,9 +44,6 @@ shared-slice-read-second c = omega (arith, prefixed-facts (sides (c .before .bef
 shared-slice-read-draft : tie.Need-shared-slice-read-draft
 shared-slice-read-draft c = omega (arith, prefixed-facts (sides (c .before .before .before .before .before .pre)) .0)
 
-slice-write-draft : tie.Need-slice-write-draft
-slice-write-draft c = search needs
-
 slice-write-draft-2 : tie.Need-slice-write-draft-2
 slice-write-draft-2 c = simp length-set (omega arith)
 
@@ -72,9 +69,6 @@ sub-put-bytes c = inside (c .before .before .before)
 part-put-bytes-start : tie.Need-part-put-bytes-start
 part-put-bytes-start c = inside (c .before .before .before)
 
-part-put-bytes-end : tie.Need-part-put-bytes-end
-part-put-bytes-end c = search needs
-
 put-bytes-requires : tie.Need-put-bytes-requires
 put-bytes-requires c κs = let j = c .before .before .before .before in simp length-set (fits (at-start j .pre) _ _ _ (found j))
 
@@ -90,14 +84,5 @@ returns c =
 pub put-isil-spec : {M : Type 1} → statement M
 put-isil-spec =
     tie.close
-    (tie.spec
-    shared-slice-read-second
-    shared-slice-read-draft
-    slice-write-draft
-    slice-write-draft-2
-    sub-put-bytes
-    part-put-bytes-start
-    part-put-bytes-end
-    put-bytes-requires
-    same-length
-    returns)
+    (tie.spec shared-slice-read-second shared-slice-read-draft (λ c. search needs) slice-write-draft-2 sub-put-bytes part-put-bytes-start (λ c. search needs)
+    put-bytes-requires same-length returns)

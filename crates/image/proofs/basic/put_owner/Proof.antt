@@ -62,20 +62,11 @@ module _ {o d : List ℕ} (p : OwnerFits o d) where
       other : (d′ : List ℕ) (r : ℕ) → stored d 23 o r d′ → Ended d′
       other d′ r n = packs d′ r (rw (alternate-packed o a) (put two o d′ r (omega (arith, n .0, fits)) n))
 
-slice-write-draft : tie.Need-slice-write-draft
-slice-write-draft c = search needs
-
-same-length : tie.Need-same-length
-same-length c = search needs
-
 returns : tie.Need-returns
 returns c = let s = c .before .before .before in marked (s .pre .0) (not-t _ (sym (s .pre .1) ∙ c .if1 .taken))
 
 returns-2 : tie.Need-returns-2
 returns-2 c = none (c .before .before .before .before .pre .0) (c .if2 .taken)
-
-shared-slice-read-if3 : tie.Need-shared-slice-read-if3
-shared-slice-read-if3 c = search needs
 
 abbrev at-start : tie.Else2 → tie.Start
 at-start c = c .before .before .before .before
@@ -90,9 +81,6 @@ low c = let e = c .before .before in low-alternate _ (at-start e .pre .0 .good) 
 put-bytes-requires : tie.Need-put-bytes-requires
 put-bytes-requires c κs = let t = c .before in let e = t .before .before in fits (at-start e .pre .0) (e .if2 .left) (basic e) (low t)
 
-same-length-2 : tie.Need-same-length-2
-same-length-2 c = search needs
-
 returns-3 : tie.Need-returns-3
 returns-3 c =
     let t = c .before .before .before .before in
@@ -104,24 +92,11 @@ put-isil-requires c κs =
     let p = at-start e .pre .0 in
     record { field = p; high = c .before .if3 .left; held = held p (e .if2 .left) (basic e) }
 
-same-length-3 : tie.Need-same-length-3
-same-length-3 c = search needs
-
 returns-4 : tie.Need-returns-4
 returns-4 c = let e = c .before .before .before .before .before .before in isil (at-start e .pre .0) (e .if2 .left) (basic e) _ (c .before .before .put-isil .ensures)
 
 pub put-owner-spec : {M : Type 1} → statement M
 put-owner-spec =
     tie.close
-    (tie.spec
-    slice-write-draft
-    same-length
-    returns
-    returns-2
-    shared-slice-read-if3
-    put-bytes-requires
-    same-length-2
-    returns-3
-    put-isil-requires
-    same-length-3
-    returns-4)
+    (tie.spec (λ c. search needs) (λ c. search needs) returns returns-2 (λ c. search needs) put-bytes-requires (λ c. search needs) returns-3 put-isil-requires
+    (λ c. search needs) returns-4)

@@ -56,5 +56,4 @@ returns c =
 
 pub fields-size-spec : {M : Type 1} → statement M
 fields-size-spec =
-    tie.close
-    (tie.spec Inv-loop μ-loop loop-holds (λ c. search needs) add-size (λ c. search needs) (λ c. search needs) add-size-2 (λ c. search needs) loop-again returns)
+    tie.close (tie.spec Inv-loop μ-loop loop-holds (λ c. search needs) add-size (λ c. search needs) (λ c. search needs) add-size-2 (λ c. search needs) loop-again returns)

@@ -10,12 +10,6 @@ use Rattle.image.proofs.sizes.is_basic.Tie as tie
 returns : tie.Need-returns
 returns c = rw (nil-of (c .before .args .owner .now) (c .if1 .taken))
 
-shared-slice-read-if2 : tie.Need-shared-slice-read-if2
-shared-slice-read-if2 c = search needs
-
-add-result : tie.Need-add-result
-add-result c = search needs
-
 returns-2 : tie.Need-returns-2
 returns-2 c =
     let s = c .before .before .before in
@@ -34,9 +28,6 @@ returns-3 c = let e = c .before .before in sym (one-capital (sides e) (c .if3 .t
 shared-slice-read-if4 : tie.Need-shared-slice-read-if4
 shared-slice-read-if4 c = omega (arith, prefixed-facts (sides (c .before .before .before)) .0)
 
-sub-result : tie.Need-sub-result
-sub-result c = search needs
-
 returns-4 : tie.Need-returns-4
 returns-4 c =
     let e = c .before .before .before .before in
@@ -49,15 +40,4 @@ returns-5 c =
 
 pub is-basic-spec : {M : Type 1} → statement M
 is-basic-spec =
-    tie.close
-    (tie.spec
-    returns
-    shared-slice-read-if2
-    add-result
-    returns-2
-    shared-slice-read-if3
-    returns-3
-    shared-slice-read-if4
-    sub-result
-    returns-4
-    returns-5)
+    tie.close (tie.spec returns (λ c. search needs) (λ c. search needs) returns-2 shared-slice-read-if3 returns-3 shared-slice-read-if4 (λ c. search needs) returns-4 returns-5)

@@ -14,12 +14,6 @@ use Rattle.image.proofs.sizes.owner_behind.Tie as tie
 told : (v w : ℕ) (o : List ℕ) (r t : Bool) → w ≡ v → r ≡ isEmpty o || basicOwner w o → r ≡ t → (if t then 0 else length o) ≡ (if isEmpty o || basicOwner v o then 0 else length o)
 told v w o r t ew er et = ap (λ (b : Bool). if b then 0 else length o) (sym et ∙ er ∙ ap (λ (x : ℕ). isEmpty o || basicOwner x o) ew)
 
-owner-width-requires : tie.Need-owner-width-requires
-owner-width-requires c κs = search needs
-
-is-basic-requires : tie.Need-is-basic-requires
-is-basic-requires c κs = search needs
-
 returns : tie.Need-returns
 returns c =
     let t = c .before in
@@ -31,4 +25,4 @@ returns-2 c =
     told _ _ (t .before .before .before .args .owner .now) _ false (t .before .owner-width .ensures) (t .is-basic .ensures) (c .if1 .left)
 
 pub owner-behind-spec : {M : Type 1} → statement M
-owner-behind-spec = tie.close (tie.spec owner-width-requires is-basic-requires returns returns-2)
+owner-behind-spec = tie.close (tie.spec (λ c κs. search needs) (λ c κs. search needs) returns returns-2)

@@ -36,6 +36,5 @@ returns-4 c =
 pub basic-stage-spec : {M : Type 1} → statement M
 basic-stage-spec =
     tie.close
-    (tie.spec (λ c κs. search needs) returns
-    (λ c. let s = size-passed (c .before .before .before .before .args .tag .now) (good (c .before)) in omega (arith, s .least)) returns-2
-    (λ c κs. size-passed _ (good (c .before .before))) returns-3 returns-4)
+    (tie.spec (λ c κs. search needs) returns (λ c. let s = size-passed (c .before .before .before .before .args .tag .now) (good (c .before)) in omega (arith, s .least))
+    returns-2 (λ c κs. size-passed _ (good (c .before .before))) returns-3 returns-4)

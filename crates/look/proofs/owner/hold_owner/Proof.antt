@@ -72,9 +72,7 @@ returns-4 c =
 pub hold-owner-spec : {M : Type 1} → statement M
 hold-owner-spec =
     tie.close
-    (tie.spec (λ c. let some = c .before .if1 .taken in omega (arith, some, c .before .before .before .before .pre .block some))
-    (λ c κs. search needs) (λ c κs. search needs) (λ c κs. search needs) returns (λ c κs. search needs) (λ c κs. search needs) returns-2
-    (λ c κs. search needs) (λ c κs. search needs) returns-3 (λ c κs. isil (c .before)) (λ c. search needs)
-    (λ c. let i = isil (c .before .before .before .before .before) in record { fits = omega (arith, i .short) })
-    (λ c. let i = isil (c .before .before .before .before .before .before) in record { fits = omega (arith, i .short, i .fits) })
-    (λ c κs. search needs) returns-4)
+    (tie.spec (λ c. let some = c .before .if1 .taken in omega (arith, some, c .before .before .before .before .pre .block some)) (λ c κs. search needs)
+    (λ c κs. search needs) (λ c κs. search needs) returns (λ c κs. search needs) (λ c κs. search needs) returns-2 (λ c κs. search needs) (λ c κs. search needs) returns-3
+    (λ c κs. isil (c .before)) (λ c. search needs) (λ c. let i = isil (c .before .before .before .before .before) in record { fits = omega (arith, i .short) })
+    (λ c. let i = isil (c .before .before .before .before .before .before) in record { fits = omega (arith, i .short, i .fits) }) (λ c κs. search needs) returns-4)

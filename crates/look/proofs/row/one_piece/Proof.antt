@@ -16,15 +16,6 @@ first c =
     let a = c .before .before .before .args in
     ⊎-elim (λ w. or-r (eqb (a .library .len) 0) _ (not-false _ (w .2 .left))) (λ w. rw (w .left)) (c .if2 .came)
 
-nowhere-requires : tie.Need-nowhere-requires
-nowhere-requires c κs = search needs
-
-nowhere-requires-2 : tie.Need-nowhere-requires-2
-nowhere-requires-2 c κs = search needs
-
-nowhere-requires-3 : tie.Need-nowhere-requires-3
-nowhere-requires-3 c κs = search needs
-
 returns : tie.Need-returns
 unfolding pieceBy
 returns c = rw (eq-eqb _ 0 (c .before .if1 .taken)) (c .nowhere .ensures)
@@ -42,4 +33,5 @@ unfolding pieceBy
 returns-4 c = rw (ne-eqb _ 0 (c .before .before .before .before .before .if1 .left), first (c .before .before .before), eq-eqb _ _ (c .before .if4 .left)) refl
 
 pub one-piece-spec : {M : Type 1} → statement M
-one-piece-spec = tie.close (tie.spec nowhere-requires returns nowhere-requires-2 returns-2 (λ c. search needs) (λ c. search needs) nowhere-requires-3 returns-3 (λ c. search needs) returns-4)
+one-piece-spec = tie.close (tie.spec (λ c κs. search needs) returns (λ c κs. search needs) returns-2 (λ c. search needs) (λ c. search needs) (λ c κs. search needs) returns-3
+    (λ c. search needs) returns-4)
