@@ -1,7 +1,7 @@
 -- The entries of a sheet with good values, put into their slots and taken out again, are the same entries.
 use mathlib.Core.Path.{_≡_, refl, sym, ap, ap₂, _∙_}
 use mathlib.Core.Logic.{_⊎_, inl, inr}
-use Prim.Native.Nat.{ℕ, _+_, _≤_, _<_}
+use Prim.Native.Nat.{ℕ, _≤_, _<_}
 use native.Mathlib.Omega.{arith}
 use native.Mathlib.Nat.{le-refl, le-of-eq}
 use mathlib.Core.Bool.{Bool, true, false, not, _&&_, _||_}
