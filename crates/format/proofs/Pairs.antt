@@ -286,11 +286,14 @@ bounds =
     && not (form 3 (isilWith 4 12)) && form 19 (1 ∷ []) && not (form 19 (0 ∷ [])) && form 1 (replicate 255 0x41) && not (form 1 (replicate 256 0x41))
     && form 255 (3 ∷ 101 ∷ 0 ∷ []) && not (form 255 (5 ∷ 1 ∷ 0 ∷ 5 ∷ 1 ∷ [])) && not (form 255 (1 ∷ []))
 
--- sheets that are refused 8: a byte behind the last entry, an offset of the wrong place, a number twice, a number behind 255
+-- sheets that are refused 9: 5 is missing, 4 is missing; and 8: a byte behind the last entry, an offset of the wrong place, a number twice, a
+-- number behind 255
 wrongSheets : Bool
 wrongSheets =
-    let wrong : List ℕ → Bool = λ s. refuses (writing pageSize s (zeros 36) (zeros 9) .answer) 8 in
-    wrong (wholeSheet ++ (0 ∷ [])) && wrong (2 ∷ 0 ∷ 4 ∷ 10 ∷ 0 ∷ 4 ∷ 5 ∷ 15 ∷ 0 ∷ 1 ∷ 1 ∷ 0 ∷ 1 ∷ 0 ∷ 0x10 ∷ [])
+    let refused : ℕ → List ℕ → Bool = λ k s. refuses (writing pageSize s (zeros 36) (zeros 9) .answer) k in
+    let wrong : List ℕ → Bool = refused 8 in
+    refused 9 (1 ∷ 0 ∷ 4 ∷ 6 ∷ 0 ∷ 4 ∷ 1 ∷ 0 ∷ 1 ∷ 0 ∷ []) && refused 9 (1 ∷ 0 ∷ 5 ∷ 6 ∷ 0 ∷ 1 ∷ 0x10 ∷ [])
+    && wrong (wholeSheet ++ (0 ∷ [])) && wrong (2 ∷ 0 ∷ 4 ∷ 10 ∷ 0 ∷ 4 ∷ 5 ∷ 15 ∷ 0 ∷ 1 ∷ 1 ∷ 0 ∷ 1 ∷ 0 ∷ 0x10 ∷ [])
     && wrong (2 ∷ 0 ∷ 5 ∷ 10 ∷ 0 ∷ 1 ∷ 5 ∷ 11 ∷ 0 ∷ 1 ∷ 0x10 ∷ 0x10 ∷ [])
     && wrong (2 ∷ 0 ∷ 255 ∷ 10 ∷ 0 ∷ 3 ∷ 5 ∷ 13 ∷ 0 ∷ 1 ∷ 3 ∷ 101 ∷ 0 ∷ 0x10 ∷ [])
 
