@@ -12,7 +12,7 @@ use borrow.Author.Tests.{eqb-false, eq-eqb, ne-eqb, le-leb, lt-leb, leb-true}
 use Rattle.format.specs.Bytes.{if_then_else_, isEmpty, all, le16, part, trim}
 use Rattle.format.specs.Fields.{long, itemField, basicOwner, ownerField}
 use Rattle.format.specs.Chain.{separated, sealed, blockWith, Library, libraryFields, libraryBytes, blockOne}
-use Rattle.format.specs.Elements.{places, numbers, placeIn, place, slot, value, clash}
+use Rattle.format.specs.Elements.{places, numbers, place, slot, value, clash}
 use Rattle.format.specs.Layout.{ownerWidth, ownerOf, usageOf, library, firstByte, front, basic, laidOut, hasLayout}
 use Rattle.format.specs.Pieces.{stored}
 use Rattle.format.proofs.Tests.{and-l, and-r, and-i, or-false, bytes-at}
@@ -39,23 +39,19 @@ module _ (ss : List (List ℕ)) (lens : List ℕ) (s : Lengths ss lens) where
   empty-at k = empty-length (getD ss k []) ∙ ap (λ (n : ℕ). eqb n 0) (length-at k)
 
   pub clash-lengths : clash ss ≡ (not (eqb (getD lens 1 0) 0) && not (eqb (getD lens 6 0) 0)) || (not (eqb (getD lens 5 0) 0) && leb 17 (getD lens 0 0))
-  unfolding clash place placeIn numbers
+  unfolding clash
   clash-lengths = rw (empty-at 1, empty-at 6, empty-at 5, length-at 0)
 
   pub owner-other : getD lens 1 0 ≡ 0 → getD ss 6 [] ≡ ownerOf ss
-  unfolding place placeIn numbers
   owner-other e = rw (empty-at 1, eq-eqb (getD lens 1 0) 0 e)
 
   pub owner-isil : (getD lens 1 0 ≡ 0 → ⊥) → getD ss 1 [] ≡ ownerOf ss
-  unfolding place placeIn numbers
   owner-isil n = rw (empty-at 1, ne-eqb (getD lens 1 0) 0 n)
 
   pub item-long : 16 < getD lens 0 0 → getD ss 0 [] ≡ (if long (slot ss 1) then slot ss 1 else slot ss 22)
-  unfolding place placeIn numbers
   item-long h = rw (length-at 0, le-leb 17 (getD lens 0 0) h)
 
   pub item-short : getD lens 0 0 ≤ 16 → getD ss 5 [] ≡ (if long (slot ss 1) then slot ss 1 else slot ss 22)
-  unfolding place placeIn numbers
   item-short h = rw (length-at 0, lt-leb 17 (getD lens 0 0) (omega arith))
 
 -- ---- by the row, and the values
@@ -83,7 +79,6 @@ module _ {src made ats lens d : List ℕ} (p : Draftable src made ats lens d) wh
   sized = lengths-are src made ats lens (p .row)
 
   each : length ats ≡ places
-  unfolding numbers
   each = sym (slots-length (src ++ made) ats lens (row-lengths src made ats lens (p .row))) ∙ values-length numbers ss (p .values)
 
   pub stands : (k : ℕ) → k < places → (k < places) × Stands src made (getD ats k 0) (getD lens k 0)
@@ -96,20 +91,18 @@ module _ {src made ats lens d : List ℕ} (p : Draftable src made ats lens d) wh
   slot-is k h = sym (slot-at (src ++ made) ats lens (row-lengths src made ats lens (p .row)) k (omega (arith, each)))
 
   value-at : (k : ℕ) → k < places → value (getD numbers k 0) (getD ss k []) ≡ true
-  unfolding numbers
   value-at k h = values-at numbers ss (p .values) k h
 
   pub set-four : length (getD ss 2 []) ≡ 4
-  unfolding numbers le16
+  unfolding le16
   set-four = sym (ap length (value-set (getD ss 2 []) (value-at 2 (omega arith)) .whole))
 
   pub usage-one : length (getD ss 3 []) ≡ 1
-  unfolding numbers
   usage-one = ap length (value-usage (getD ss 3 []) (value-at 3 (omega arith)))
 
   module _ (clear : clash ss ≡ false) where
     pub owner-good : OwnerOrNone (ownerOf ss)
-    unfolding clash place placeIn numbers
+    unfolding clash
     owner-good =
         let isil : List ℕ = getD ss 1 [] in
         let other : List ℕ = getD ss 6 [] in
@@ -163,7 +156,7 @@ module _ {src made ats lens d : List ℕ} (p : Draftable src made ats lens d) wh
         go false e = rw (e ∙ owner-long) (slot-is name hn ∙ en)
 
     usage-field : part (getD ats 3 0) code (src ++ made) ≡ trim (library n ss .usage) []
-    unfolding library numbers trim place placeIn
+    unfolding library trim
     usage-field = go (eqb (usageOf ss % 16) 0) refl ec
       where
         go : (t : Bool) → eqb (usageOf ss % 16) 0 ≡ t → code ≡ (if t then 0 else 1) → part (getD ats 3 0) code (src ++ made) ≡ trim (if t then 0 else usageOf ss) []
@@ -256,7 +249,7 @@ module _ {ss : List (List ℕ)} {blocks d₀ : List ℕ} (p : Ready ss blocks d�
 
   pub first : (item info d₁ : List ℕ) (usage : ℕ) → item ≡ getD ss 0 [] → info ≡ getD ss 2 [] → usage ≡ getD (getD ss 3 []) 0 0
       → stored d₀ 0 (firstByte usage ∷ getD info 0 0 ∷ getD info 2 0 ∷ itemField item) 19 d₁ → On 0 d₀ headed 21 d₁
-  unfolding front place placeIn numbers
+  unfolding front
   first item info d₁ usage ei es eu e =
       let l = p .least in
       gap (put (start 0 d₀ (omega arith) (blank-all d₀ (p .blank))) (front ss) d₁ 19 (omega arith) (rw (ei, es, eu) at e)) 2 (omega arith)

@@ -9,7 +9,7 @@ use lib.ListN.{length, getD}
 use borrow.Author.Needs.{needs}
 use Rattle.format.specs.Answers.{need, inOrder, afterwards}
 use Rattle.format.specs.Chain.{blockOne}
-use Rattle.format.specs.Elements.{numbers, placeIn, place, clash}
+use Rattle.format.specs.Elements.{clash}
 use Rattle.format.specs.Layout.{ownerWidth, ownerOf, library, hasLayout}
 use Rattle.format.proofs.Tests.{not-t, not-f}
 use Rattle.image.specs.Laying.{OwnerOrNone, On}
@@ -49,7 +49,7 @@ fields : (c : tie.After-usage-behind) → let s = from-owner (to-owner c) in
     Fielded (s .args .src .now) (s .args .made .now)
     (getD (s .args .ats .now) (c .before .before .before .before .before .before .before .before .before .before .before .before .item-place .result) 0 ∷ getD (s .args .ats .now) (c .before .before .before .before .before .before .before .before .before .before .before .owner-place .result) 0 ∷ getD (s .args .ats .now) 3 0 ∷ [])
     (getD (s .args .lens .now) (c .before .before .before .before .before .before .before .before .before .before .before .before .item-place .result) 0 ∷ c .before .before .before .before .before .owner-behind .result ∷ c .usage-behind .result ∷ []) (library (n s) (ss (s .pre)))
-unfolding library numbers placeIn place
+unfolding library
 fields c =
     let s = from-owner (to-owner c) in
     let p = s .pre in
@@ -59,7 +59,7 @@ fields c =
     (rw (owner-is (to-owner c)) at (c .before .before .before .before .before .owner-behind .ensures)) (rw (usage-is (c .before .before .before .before .before .before .before .before .before)) at (c .usage-behind .ensures))
 
 media-is : (c : tie.After-byte-at) → let s = from-owner (c .before .before .before .before) in c .byte-at .result ≡ library (n s) (ss (s .pre)) .media
-unfolding library numbers placeIn place
+unfolding library
 media-is c = c .byte-at .ensures ∙ ap (λ (x : List ℕ). getD x 0 0) (c .before .slot3 .ensures ∙ slot-is (from-owner (c .before .before .before .before) .pre) 4 (omega arith))
 
 abbrev from-size : tie.After-block-size → tie.Start
