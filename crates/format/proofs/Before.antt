@@ -216,7 +216,7 @@ places rule =
 
 -- it was refused in each, and passes in each
 pub places-opened : (all not (places textBefore) ≡ true) × (all (λ b. b) (places text) ≡ true)
-unfolding all oneOf textBefore text rowsFrom rows after goodFieldsBy goodOwnerBy goodLibraryBy isOwnerBy alternativeBy goodValuesBy valueBy formBy shapeBy shape isilOf isil prefixIn upTo past strip trim same payload fieldsIn beyond libraryIn blockOf sealed le16 word xorAll chain walk damageSteps named summed needAt inOrder andThen orElse numbers setInfo find
+unfolding all oneOf textBefore text rowsFrom rows after goodFieldsBy goodOwnerBy goodLibraryBy isOwnerBy alternativeBy goodValuesBy valueBy formBy shapeBy shape isilOf isil prefixIn upTo past strip trim same payload fieldsIn beyond libraryIn blockOf sealed le16 word xorAll chain walk damageSteps named summed needAt inOrder andThen orElse setInfo find
 places-opened = (refl, refl)
 
 -- a byte alone is text where it was

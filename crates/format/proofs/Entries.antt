@@ -26,7 +26,7 @@ isIn [] m = eqb m 255
 isIn (n ∷ ns) m = eqb m n || isIn ns m
 
 form-in : (n : ℕ) (s : List ℕ) → form n s ≡ true → isIn numbers n ≡ true
-unfolding form shape isIn numbers all
+unfolding form shape isIn all
 form-in n s e =
     let r = kind-of (λ r. r .shape s) (λ r. isIn numbers (r .number)) table n (and-l (shape n s) (leb (length s) 255) e) refl in ap (isIn numbers) (r .1) ∙ r .3
 
@@ -166,13 +166,13 @@ forms-in (x ∷ es) h =
     (and-i (form-in (x .number) (x .bytes) a) (r .0), and-i (ap not (form-full (x .number) (x .bytes) a)) (r .1))
 
 rising-zero : (es : List Entry) → within numbers es ≡ true → rising es ≡ true → risingFrom 0 es ≡ true
-unfolding rising risingFrom all ascending numbers
+unfolding rising risingFrom all ascending
 rising-zero [] w r = refl
 rising-zero (x ∷ es) w r = and-i (or-l _ _ (lt-ltb 0 (x .number) (in-above 0 numbers (x .number) refl (and-l (isIn numbers (x .number)) (within numbers es) w)))) r
 
 -- entries with good values come back from their content
 pub entries-content : (es : List Entry) → rising es ≡ true → all formed es ≡ true → entries (contentOf es) ≡ es
-unfolding entries contentOf numbers ascending
+unfolding entries contentOf ascending
 entries-content es r h =
     let k = forms-in es h in
     sort-back 0 numbers es refl (rising-zero es (k .0) r) (k .0) (k .1)
@@ -220,7 +220,7 @@ unfolding goodValues
 values-parts es g = (and-l (forms es) (all (present es) numbers) g, and-r (forms es) (all (present es) numbers) g)
 
 numbers-at : (f : ℕ → Bool) → all f numbers ≡ true → f 4 ≡ true
-unfolding all numbers
+unfolding all
 numbers-at f e = and-l (f 4) _ (and-r (f 3) _ (and-r (f 1) _ e))
 
 pub values-sound : (es : List Entry) → goodValues es ≡ true → clash (contentOf es .slots) ≡ false → sound (contentOf es) ≡ true
@@ -356,7 +356,7 @@ pub record Entered (c : Content) (es : List Entry) : Type 0 where
   pub content : contentOf es ≡ c
 
 pub content-entries : (c : Content) → sound c ≡ true → Entered c (entries c)
-unfolding entries goodValues contentOf numbers ascending
+unfolding entries goodValues contentOf ascending
 content-entries c e =
     let k = sound-parts c e in
     let fb = find-back 0 numbers (c .slots) (c .carried) refl (values-length numbers (c .slots) (k .values)) in

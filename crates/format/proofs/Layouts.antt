@@ -16,7 +16,7 @@ use Rattle.format.specs.Crc.{crc, covered}
 use Rattle.format.specs.Text.{text}
 use Rattle.format.specs.Fields.{marker, hyphen, long, alternate, ownerSaid, goodItem, goodOwner, itemField, packed, basicOwner, ownerField}
 use Rattle.format.specs.Chain.{chain, blockOf, otherBlocks, libraryIn, goodLibrary, blockOne}
-use Rattle.format.specs.Elements.{Content, numbers, placeIn, place, known, el, shape, sound}
+use Rattle.format.specs.Elements.{Content, known, el, shape, sound}
 use Rattle.format.specs.Layout.{ownerWidth, ownerOf, usageOf, library, firstByte, front, basic, ownBlocks, laidOut, layout, hasLayout, image, fits}
 use Rattle.format.specs.Reading.{walked, blocksIn, libraryOn, goodFields, agree, ownerOn, contentIn, Readable}
 use Rattle.format.proofs.Tests.{and-l, and-r, and-i, or-inv, same-refl}
@@ -160,15 +160,15 @@ module _ (n : ℕ) (c : Content) where
 
 module _ (n : ℕ) (c : Content) (k : Facts c) where
   owners : OwnerPlaced (ownerWidth n) (ownerOf (c .slots)) (library n (c .slots) .owner)
-  unfolding library known place placeIn numbers
+  unfolding library known
   owners = owner-placed (ownerWidth n) (ownerOf (c .slots)) (owner-either (el c 3) (el c 23) (value-isil (el c 3) (k .values 3 refl)) (value-alternative (el c 23) (k .values 23 refl)) (k .owners))
 
   text1 : text (el c 1) ≡ true
-  unfolding shape known place placeIn numbers
+  unfolding shape known
   text1 = value-text 1 (el c 1) refl (k .values 1 refl)
 
   text22 : text (el c 22) ≡ true
-  unfolding shape known place placeIn numbers
+  unfolding shape known
   text22 = value-text 22 (el c 22) refl (k .values 22 refl)
 
   -- a tag whose parts are these holds these elements
@@ -182,7 +182,7 @@ module _ (n : ℕ) (c : Content) (k : Facts c) where
     pub others : otherBlocks (blocksIn t) ≡ c .carried
 
   content-back : (t : List ℕ) → Parts t → contentIn t ≡ c
-  unfolding contentIn ownerOn library known place placeIn numbers
+  unfolding contentIn ownerOn library known
   content-back t h =
       let ic = item-content (el c 1) (el c 22) text1 (k .items) in
       let oc = owner-content (el c 3) (el c 23) (value-isil (el c 3) (k .values 3 refl)) (value-alternative (el c 23) (k .values 23 refl)) (k .owners) in
@@ -213,7 +213,7 @@ module _ (n : ℕ) (c : Content) (k : Facts c) where
 
 -- What the writer lays down is readable, and holds the elements that were laid down.
 pub read-back : (p n : ℕ) (c : Content) → goodSize p n ≡ true → sound c ≡ true → fits n c ≡ true → Readable (image n c) × (contentIn (image n c) ≡ c)
-unfolding goodFields library front known place placeIn numbers
+unfolding goodFields library front known
 read-back p n c good s f =
     let k = sound-facts c s in
     let t : List ℕ = image n c in

@@ -64,7 +64,7 @@ carried-count (c ∷ cs) h =
 -- the sheet of elements whose carried blocks have room on a tag is short
 module _ (c : Content) (s : sound c ≡ true) (j : length (joined (c .carried)) ≤ 2048) where
   pub content-short : length (sheetOf (entries c)) ≤ 8192
-  unfolding entries numbers
+  unfolding entries
   content-short =
       let k = sound-parts c s in
       let a : List Entry = entriesAt numbers (c .slots) in

@@ -14,7 +14,7 @@ use Rattle.format.specs.Crc.{crcBit, crcBits, crcByte, crcFrom, crc, cov
 use Rattle.format.specs.Text.{rows, after, rowsFrom, text, encode, encodings}
 use Rattle.format.specs.Fields.{capital, unitByte, isilOf, isil, alternative, isOwner, goodItem, prefixIn, ownerSaid, goodOwner, itemField, packed, basicOwner, ownerField}
 use Rattle.format.specs.Chain.{named, summed, wellFormed, carriable, damageSteps, walk, chain, blockOf, otherBlocks, payload, fieldsIn, beyond, separated, sealed, blockWith, libraryIn, goodLibrary, libraryBytes}
-use Rattle.format.specs.Elements.{numbers, setInfo, shape, form, value, placeIn, place, known, put, clash}
+use Rattle.format.specs.Elements.{setInfo, shape, form, value, place, known, put, clash}
 use Rattle.format.specs.Sheet.{heads, bodies, sheetOf, offsetsFit, risingFrom, rising, cut, entriesIn, rightSheet, find, carriedIn, contentOf, goodValues, entriesAt, carriedEntries, entries}
 use Rattle.format.specs.Layout.{library, front, basic, laidOut, layout, hasLayout}
 use Rattle.format.specs.Reading.{goodFields, agree, ownerOn, contentIn, tagSteps}
@@ -71,7 +71,7 @@ pairs =
     []
 
 pub pairs-hold : T (all (λ b. b) pairs)
-unfolding pairs digits setSheet isilUs need needAt inOrder afterwards andThen orElse passed all oneOf same le16 word padWith trim strip upTo past xorAll joined goodSize lockMap differs lockedDiffers count changed lockedChanged crcBit crcBits crcByte crcFrom crc covered rows after rowsFrom text capital unitByte isilOf isil alternative isOwner goodItem prefixIn ownerSaid goodOwner itemField packed basicOwner ownerField named summed wellFormed carriable damageSteps walk chain blockOf otherBlocks payload fieldsIn beyond separated sealed blockWith libraryIn goodLibrary libraryBytes numbers setInfo shape form value placeIn place known put clash heads bodies sheetOf offsetsFit risingFrom rising cut entriesIn rightSheet find carriedIn contentOf goodValues entriesAt carriedEntries entries library front basic laidOut layout hasLayout goodFields agree ownerOn contentIn tagSteps readSteps reading layingSteps writeSteps writing
+unfolding pairs digits setSheet isilUs need needAt inOrder afterwards andThen orElse passed all oneOf same le16 word padWith trim strip upTo past xorAll joined goodSize lockMap differs lockedDiffers count changed lockedChanged crcBit crcBits crcByte crcFrom crc covered rows after rowsFrom text capital unitByte isilOf isil alternative isOwner goodItem prefixIn ownerSaid goodOwner itemField packed basicOwner ownerField named summed wellFormed carriable damageSteps walk chain blockOf otherBlocks payload fieldsIn beyond separated sealed blockWith libraryIn goodLibrary libraryBytes setInfo shape form value known put clash heads bodies sheetOf offsetsFit risingFrom rising cut entriesIn rightSheet find carriedIn contentOf goodValues entriesAt carriedEntries entries library front basic laidOut layout hasLayout goodFields agree ownerOn contentIn tagSteps readSteps reading layingSteps writeSteps writing
 pairs-hold = tt
 
 -- ---- the whole case, and the standard's examples
@@ -326,5 +326,5 @@ examples =
     damages ∷ alphabets ∷ oneCapital ∷ bounds ∷ wrongSheets ∷ lockMaps ∷ resultsInC ∷ []
 
 pub examples-hold : T (all (λ b. b) examples)
-unfolding examples isilUs wholeSheet wholeFront wholeTag isilDk fieldDk item1 tag1 sheet1 item2 acquisition tag2 sheet2 longItem isilOclc markedTag markedSheet withBlocks fullTag fullSheet plainTag plainSheet endingZeros mediaSheet changedBack moved editRefused wideNumber isLoose looseTags damagedAt damages alphabets texts codePoints accents itemSheet accentTag longAccentTag cutTag cutField illFormed overlongRefused isilWith oneCapital bounds wrongSheets lockMaps resultsInC need needAt inOrder afterwards andThen orElse passed all oneOf same le16 word padWith trim strip upTo past xorAll joined goodSize lockMap differs lockedDiffers count changed lockedChanged crcBit crcBits crcByte crcFrom crc covered rows after rowsFrom text encode capital unitByte isilOf isil alternative isOwner goodItem prefixIn ownerSaid goodOwner itemField packed basicOwner ownerField named summed wellFormed carriable damageSteps walk chain blockOf otherBlocks payload fieldsIn beyond separated sealed blockWith libraryIn goodLibrary libraryBytes numbers setInfo shape form value placeIn place known put clash heads bodies sheetOf offsetsFit risingFrom rising cut entriesIn rightSheet find carriedIn contentOf goodValues entriesAt carriedEntries entries library front basic laidOut layout hasLayout goodFields agree ownerOn contentIn tagSteps readSteps reading layingSteps writeSteps writing ownLayout editSteps editing
+unfolding examples isilUs wholeSheet wholeFront wholeTag isilDk fieldDk item1 tag1 sheet1 item2 acquisition tag2 sheet2 longItem isilOclc markedTag markedSheet withBlocks fullTag fullSheet plainTag plainSheet endingZeros mediaSheet changedBack moved editRefused wideNumber isLoose looseTags damagedAt damages alphabets texts codePoints accents itemSheet accentTag longAccentTag cutTag cutField illFormed overlongRefused isilWith oneCapital bounds wrongSheets lockMaps resultsInC need needAt inOrder afterwards andThen orElse passed all oneOf same le16 word padWith trim strip upTo past xorAll joined goodSize lockMap differs lockedDiffers count changed lockedChanged crcBit crcBits crcByte crcFrom crc covered rows after rowsFrom text encode capital unitByte isilOf isil alternative isOwner goodItem prefixIn ownerSaid goodOwner itemField packed basicOwner ownerField named summed wellFormed carriable damageSteps walk chain blockOf otherBlocks payload fieldsIn beyond separated sealed blockWith libraryIn goodLibrary libraryBytes setInfo shape form value known put clash heads bodies sheetOf offsetsFit risingFrom rising cut entriesIn rightSheet find carriedIn contentOf goodValues entriesAt carriedEntries entries library front basic laidOut layout hasLayout goodFields agree ownerOn contentIn tagSteps readSteps reading layingSteps writeSteps writing ownLayout editSteps editing
 examples-hold = tt

@@ -12,7 +12,7 @@ use Rattle.format.specs.Bytes.{if_then_else_, isEmpty, bytes, same, part
 use Rattle.format.specs.Pages.{goodSize}
 use Rattle.format.specs.Fields.{isilOf, hyphen, blank, alternate, alternative, marked, prefixIn, ownerSaid, goodOwner, long, packed, basicOwner}
 use Rattle.format.specs.Chain.{takenApart, blockOf, otherBlocks, Library, payload, fieldsIn, beyond, separated, blockWith, lastField, libraryIn, libraryFields, libraryBytes, blockOne}
-use Rattle.format.specs.Elements.{Content, numbers, placeIn, place}
+use Rattle.format.specs.Elements.{Content}
 use Rattle.format.specs.Layout.{ownerWidth, ownerOf, library, basic, ownBlocks, laidOut, fits, hasLayout}
 use Rattle.format.specs.Reading.{mainUsage, itemIn, ownerIn, blocksIn, libraryOn, ownerOn, contentIn, Readable}
 use Rattle.format.proofs.Tests.{never, beq-false, and-i, or-r}
@@ -140,7 +140,7 @@ module _ (t : List ℕ) (r : Readable t) where
       go false = nil o
 
   owner-again : ownerOf (c .slots) ≡ ownerOn t
-  unfolding contentIn place placeIn numbers
+  unfolding contentIn
   owner-again = either-owner (ownerOn t)
 
   less-owner : (n : ℕ) → length (ownerIn t) ≤ ownerWidth n → (again n .owner ≡ f .owner) ⊎ (again n .owner ≡ [])
@@ -161,14 +161,14 @@ module _ (t : List ℕ) (r : Readable t) where
       go (x ∷ fo) e = keep (x ∷ fo) (basicOwner (ownerWidth n) (x ∷ fo))
 
   again-fewer : (n : ℕ) → length (ownerIn t) ≤ ownerWidth n → Fewer (libraryFields (again n)) (libraryFields f)
-  unfolding again library contentIn place placeIn numbers
+  unfolding again library contentIn
   again-fewer n l =
       next (less-item (itemIn t) (f .item) (omega (arith, strip-length (part 3 16 t), part-length 3 16 t)))
       (next (less-owner n l) (next (less-usage (mainUsage t) (f .usage)) none))
 
   -- block 1 is no longer than it was
   pub block-shorter : (n : ℕ) → length (ownerIn t) ≤ ownerWidth n → length (blockOne (library n (contentIn t .slots))) ≤ length (blockOf 1 (blocksIn t))
-  unfolding again library contentIn place placeIn numbers
+  unfolding again library contentIn
   block-shorter n l =
       let b : List ℕ = blockOf 1 (blocksIn t) in
       let lt = library-tests b (fields-parts t (r .fields) .library) in

@@ -41,7 +41,6 @@ values-set (n ∷ ns) (r ∷ ss) zero s e v = and-i v (and-r (value n r) (values
 values-set (n ∷ ns) (r ∷ ss) (suc i) s e v = and-i (and-l (value n r) (valuesAt ns ss) e) (values-set ns ss i s (and-r (value n r) (valuesAt ns ss) e) v)
 
 pub place-number : (ns : List ℕ) (n : ℕ) → placeIn ns n < length ns → getD ns (placeIn ns n) 0 ≡ n
-unfolding placeIn
 place-number [] n h = absurd (not-suc-le-zero h)
 place-number (m ∷ ns) n h = go (eqb m n) refl (λ k. place-number ns n k) h
   where
@@ -94,14 +93,14 @@ parts-sound c k = and-i (and-i (k .values) (k .blocks)) (ap not (k .clear))
 
 -- the number that stands at a known number's place
 pub known-at : (n : ℕ) → known n ≡ true → (place n < length numbers) × (getD numbers (place n) 0 ≡ n)
-unfolding known place
+unfolding known
 known-at n k = let h = ltb-true (placeIn numbers n) (length numbers) k in (h, place-number numbers n h)
 
 pub value-of : (c : Content) → sound c ≡ true → (n : ℕ) → known n ≡ true → value n (el c n) ≡ true
 value-of c sc n kn = let k = known-at n kn in rw (k .1) at (values-at numbers (c .slots) (sound-parts c sc .values) (place n) (k .0))
 
 pub sound-facts : (c : Content) → sound c ≡ true → Facts c
-unfolding numbers place placeIn clash
+unfolding clash
 sound-facts c e =
     let k = sound-parts c e in
     let cl = or-false _ _ (k .clear) in
@@ -117,7 +116,7 @@ sound-facts c e =
 
 -- no number above 255 is one of the table
 pub wide-unknown : (n : ℕ) → 255 < n → known n ≡ false
-unfolding numbers all
+unfolding all
 wide-unknown n h = same-truth (known n) false (λ k. absurd (omega (arith, known-at n k .1, bytes-at (place n) numbers refl))) (λ e. never (cc))
 
 module _ (c : Content) (sc : sound c ≡ true) (n : ℕ) (kn : known n ≡ true) where

@@ -13,7 +13,7 @@ use Rattle.format.specs.Bytes.{if_then_else_, isEmpty, all, bytes, same,
 use Rattle.format.specs.Text.{text}
 use Rattle.format.specs.Fields.{capital, isilOf, isil, hyphen, blank, alternate, alternative, isOwner, marker, marked, goodItem, prefixIn, ownerSaid, goodOwner, long}
 use Rattle.format.specs.Chain.{idOf, wellFormed, takenApart, carriable, blockOf, otherBlocks, payload, fieldsIn, lastField, libraryIn, goodLibrary}
-use Rattle.format.specs.Elements.{numbers, placeIn, place, shape, form, value, clash, valuesAt, sound}
+use Rattle.format.specs.Elements.{shape, form, value, clash, valuesAt, sound}
 use Rattle.format.specs.Damage.{blockAt}
 use Rattle.format.specs.Reading.{itemIn, ownerIn, blocksIn, libraryOn, goodFields, agree, ownerOn, contentIn, Readable}
 use Rattle.format.proofs.Tests.{never, and-l, and-r, and-i, and-no, or-f, or-inv, if-inv, bytes-at}
@@ -229,7 +229,7 @@ module _ (t : List ℕ) (y : bytes t ≡ true) (r : Readable t) where
 
   -- what is read is sound
   pub read-sound : sound (contentIn t) ≡ true
-  unfolding contentIn valuesAt numbers clash place placeIn
+  unfolding contentIn valuesAt clash
   read-sound =
       let f = fields-parts t (r .fields) in
       let l = library-tests (blockOf 1 (blocksIn t)) (f .library) in

@@ -11,7 +11,7 @@ use borrow.Author.Tests.{ne-eqb, le-leb}
 use Rattle.format.specs.Bytes.{isEmpty, same}
 use Rattle.format.specs.Text.{text, Encoded}
 use Rattle.format.specs.Fields.{alternate, alternative, isOwner, marked, goodItem, goodOwner}
-use Rattle.format.specs.Elements.{Content, numbers, placeIn, place, known, el, shape, sound}
+use Rattle.format.specs.Elements.{Content, known, el, shape, sound}
 use Rattle.format.specs.Reading.{itemIn, ownerIn, libraryOn, Readable}
 use Rattle.format.proofs.Tests.{never, or-inv}
 use Rattle.format.proofs.Text.{between-facts}
@@ -58,7 +58,7 @@ tag-whole t r =
     )
 
 pub content-whole : (c : Content) → sound c ≡ true → Encoded (el c 1) × Encoded (el c 22) × Encoded (drop 1 (el c 23))
-unfolding known place placeIn numbers shape
+unfolding known shape
 content-whole c s =
     let k = sound-facts c s in
     let behind : Encoded (drop 1 (el c 23)) =

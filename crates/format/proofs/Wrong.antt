@@ -14,7 +14,7 @@ use Rattle.format.specs.Crc.{crcBit, crcBits, crcByte, crcFrom, crc, cov
 use Rattle.format.specs.Text.{rows, after, rowsFrom, text, letter, encode, Encoded}
 use Rattle.format.specs.Fields.{capital, unitByte, isilOf, isil, alternative, isOwner, goodItem, prefixIn, ownerSaid, goodOwner, itemField, packed, basicOwner, ownerField}
 use Rattle.format.specs.Chain.{named, summed, wellFormed, carriable, damageSteps, walk, chain, blockOf, otherBlocks, payload, fieldsIn, beyond, separated, sealed, blockWith, libraryIn, goodLibrary, libraryBytes}
-use Rattle.format.specs.Elements.{Content, numbers, setInfo, shape, form, value, placeIn, place, known, el, put, clash, valuesAt, sound}
+use Rattle.format.specs.Elements.{Content, setInfo, shape, form, value, place, known, el, put, clash, valuesAt, sound}
 use Rattle.format.specs.Sheet.{heads, bodies, sheetOf, offsetsFit, risingFrom, rising, cut, entriesIn, rightSheet, find, carriedIn, contentOf, goodValues, entriesAt, carriedEntries, entries}
 use Rattle.format.specs.Layout.{library, front, basic, laidOut, image, layout, hasLayout}
 use Rattle.format.specs.Reading.{walked, goodFields, agree, ownerOn, contentIn, tagSteps}
@@ -111,7 +111,7 @@ record Facts : Type 0 where
   first-walked : walked damagedFirst ≡ refused (placed 15 34)
 
 facts : Facts
-unfolding item otherSheet used accents itemSheet withBlocks isilUs isilDk fieldDk wholeSheet wholeFront wholeTag item2 acquisition tag2 sheet2 need needAt inOrder afterwards andThen orElse passed all oneOf same le16 word padWith trim strip upTo past xorAll joined goodSize lockMap differs lockedDiffers count changed lockedChanged crcBit crcBits crcByte crcFrom crc covered rows after rowsFrom text capital unitByte isilOf isil alternative isOwner goodItem prefixIn ownerSaid goodOwner itemField packed basicOwner ownerField named summed wellFormed carriable damageSteps walk chain blockOf otherBlocks payload fieldsIn beyond separated sealed blockWith libraryIn goodLibrary libraryBytes numbers setInfo shape form value placeIn place known put clash valuesAt sound heads bodies sheetOf offsetsFit risingFrom rising cut entriesIn rightSheet find carriedIn contentOf goodValues entriesAt carriedEntries entries library front basic laidOut layout hasLayout goodFields agree ownerOn contentIn tagSteps layingSteps ownLayout readSteps writeSteps editSteps
+unfolding item otherSheet used accents itemSheet withBlocks isilUs isilDk fieldDk wholeSheet wholeFront wholeTag item2 acquisition tag2 sheet2 need needAt inOrder afterwards andThen orElse passed all oneOf same le16 word padWith trim strip upTo past xorAll joined goodSize lockMap differs lockedDiffers count changed lockedChanged crcBit crcBits crcByte crcFrom crc covered rows after rowsFrom text capital unitByte isilOf isil alternative isOwner goodItem prefixIn ownerSaid goodOwner itemField packed basicOwner ownerField named summed wellFormed carriable damageSteps walk chain blockOf otherBlocks payload fieldsIn beyond separated sealed blockWith libraryIn goodLibrary libraryBytes setInfo shape form value known put clash valuesAt sound heads bodies sheetOf offsetsFit risingFrom rising cut entriesIn rightSheet find carriedIn contentOf goodValues entriesAt carriedEntries entries library front basic laidOut layout hasLayout goodFields agree ownerOn contentIn tagSteps layingSteps ownLayout readSteps writeSteps editSteps
 facts = record {
   read-whole = refl;
   write-whole = refl;
@@ -372,7 +372,7 @@ module _ (write : Writer) (edit : Editor) (exact : EditsExactly edit) (every : E
 pub editor-refusing-locked : (edit : Editor)
     → ((p : ℕ) (t : List ℕ) (n : ℕ) (s buffer : List ℕ) → (x : Refusal) × (edit p t (replicate (length t / p) 1) n s buffer .answer ≡ refused x))
     → SameIsNothing edit → ⊥
-unfolding known place placeIn numbers
+unfolding known
 editor-refusing-locked edit refuses same-is-nothing =
     no-refusal (refuses pageSize wholeTag 1 (el whole 1) (zeros 255) .1)
     (same-is-nothing pageSize wholeTag (replicate (length wholeTag / pageSize) 1) whole (facts .whole-own) 1 (zeros 255) (facts .whole-locked) (omega arith) refl .0)

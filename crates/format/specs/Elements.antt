@@ -64,7 +64,7 @@ elements =
 abbrev pub places : ℕ
 places = length elements
 
-unfoldable pub numbers : List ℕ
+abbrev pub numbers : List ℕ
 numbers = map (λ r. r .number) elements
 
 -- all rows: the last one is that of the carried blocks
@@ -97,11 +97,11 @@ pub record Content : Type 0 where
   pub carried : List (List ℕ)
 
 -- where a number stands in a list of numbers: the list's length if nowhere
-unfoldable pub placeIn : List ℕ → ℕ → ℕ
+abbrev pub placeIn : List ℕ → ℕ → ℕ
 placeIn [] n = 0
 placeIn (m ∷ ms) n = if eqb m n then 0 else suc (placeIn ms n)
 
-unfoldable pub place : ℕ → ℕ
+abbrev pub place : ℕ → ℕ
 place n = placeIn numbers n
 
 -- a number of the table other than 255

@@ -12,7 +12,7 @@ use borrow.Author.Tests.{eqb-false, eq-eqb, ne-eqb, le-leb, lt-leb, leb-true}
 use Rattle.format.specs.Bytes.{if_then_else_, isEmpty, all, le16, part, trim}
 use Rattle.format.specs.Fields.{long, itemField, basicOwner, ownerField}
 use Rattle.format.specs.Chain.{separated, sealed, blockWith, Library, libraryFields, libraryBytes, blockOne}
-use Rattle.format.specs.Elements.{places, numbers, placeIn, place, slot, value, clash}
+use Rattle.format.specs.Elements.{places, numbers, place, slot, value, clash}
 use Rattle.format.specs.Layout.{ownerWidth, ownerOf, usageOf, library, firstByte, front, basic, laidOut, hasLayout}
 use Rattle.format.specs.Pieces.{stored}
 use Rattle.format.proofs.Tests.{and-l, and-r, and-i, or-false, bytes-at}
@@ -38,25 +38,21 @@ module _ (ss : List (List ℕ)) (lens : List ℕ) (s : Lengths ss lens) where
   empty-at : (k : ℕ) → isEmpty (getD ss k []) ≡ eqb (getD lens k 0) 0
   empty-at k = empty-length (getD ss k []) ∙ ap (λ (n : ℕ). eqb n 0) (length-at k)
 
-  pub clash-lengths : clash ss ≡ (not (eqb (getD lens 1 0) 0) && not (eqb (getD lens 6 0) 0)) || (not (eqb (getD lens 5 0) 0) && leb 17 (getD lens 0 0))
-  unfolding clash place placeIn numbers
-  clash-lengths = rw (empty-at 1, empty-at 6, empty-at 5, length-at 0)
+  pub clash-lengths : clash ss ≡ (not (eqb (getD lens (place 3) 0) 0) && not (eqb (getD lens (place 23) 0) 0)) || (not (eqb (getD lens (place 22) 0) 0) && leb 17 (getD lens (place 1) 0))
+  unfolding clash
+  clash-lengths = rw (empty-at (place 3), empty-at (place 23), empty-at (place 22), length-at (place 1))
 
-  pub owner-other : getD lens 1 0 ≡ 0 → getD ss 6 [] ≡ ownerOf ss
-  unfolding place placeIn numbers
-  owner-other e = rw (empty-at 1, eq-eqb (getD lens 1 0) 0 e)
+  pub owner-other : getD lens (place 3) 0 ≡ 0 → slot ss 23 ≡ ownerOf ss
+  owner-other e = rw (empty-at (place 3), eq-eqb (getD lens (place 3) 0) 0 e)
 
-  pub owner-isil : (getD lens 1 0 ≡ 0 → ⊥) → getD ss 1 [] ≡ ownerOf ss
-  unfolding place placeIn numbers
-  owner-isil n = rw (empty-at 1, ne-eqb (getD lens 1 0) 0 n)
+  pub owner-isil : (getD lens (place 3) 0 ≡ 0 → ⊥) → slot ss 3 ≡ ownerOf ss
+  owner-isil n = rw (empty-at (place 3), ne-eqb (getD lens (place 3) 0) 0 n)
 
-  pub item-long : 16 < getD lens 0 0 → getD ss 0 [] ≡ (if long (slot ss 1) then slot ss 1 else slot ss 22)
-  unfolding place placeIn numbers
-  item-long h = rw (length-at 0, le-leb 17 (getD lens 0 0) h)
+  pub item-long : 16 < getD lens (place 1) 0 → slot ss 1 ≡ (if long (slot ss 1) then slot ss 1 else slot ss 22)
+  item-long h = rw (length-at (place 1), le-leb 17 (getD lens (place 1) 0) h)
 
-  pub item-short : getD lens 0 0 ≤ 16 → getD ss 5 [] ≡ (if long (slot ss 1) then slot ss 1 else slot ss 22)
-  unfolding place placeIn numbers
-  item-short h = rw (length-at 0, lt-leb 17 (getD lens 0 0) (omega arith))
+  pub item-short : getD lens (place 1) 0 ≤ 16 → slot ss 22 ≡ (if long (slot ss 1) then slot ss 1 else slot ss 22)
+  item-short h = rw (length-at (place 1), lt-leb 17 (getD lens (place 1) 0) (omega arith))
 
 -- ---- by the row, and the values
 
@@ -83,7 +79,6 @@ module _ {src made ats lens d : List ℕ} (p : Draftable src made ats lens d) wh
   sized = lengths-are src made ats lens (p .row)
 
   each : length ats ≡ places
-  unfolding numbers
   each = sym (slots-length (src ++ made) ats lens (row-lengths src made ats lens (p .row))) ∙ values-length numbers ss (p .values)
 
   pub stands : (k : ℕ) → k < places → (k < places) × Stands src made (getD ats k 0) (getD lens k 0)
@@ -96,25 +91,23 @@ module _ {src made ats lens d : List ℕ} (p : Draftable src made ats lens d) wh
   slot-is k h = sym (slot-at (src ++ made) ats lens (row-lengths src made ats lens (p .row)) k (omega (arith, each)))
 
   value-at : (k : ℕ) → k < places → value (getD numbers k 0) (getD ss k []) ≡ true
-  unfolding numbers
   value-at k h = values-at numbers ss (p .values) k h
 
-  pub set-four : length (getD ss 2 []) ≡ 4
-  unfolding numbers le16
-  set-four = sym (ap length (value-set (getD ss 2 []) (value-at 2 (omega arith)) .whole))
+  pub set-four : length (slot ss 4) ≡ 4
+  unfolding le16
+  set-four = sym (ap length (value-set (slot ss 4) (value-at (place 4) (omega arith)) .whole))
 
-  pub usage-one : length (getD ss 3 []) ≡ 1
-  unfolding numbers
-  usage-one = ap length (value-usage (getD ss 3 []) (value-at 3 (omega arith)))
+  pub usage-one : length (slot ss 5) ≡ 1
+  usage-one = ap length (value-usage (slot ss 5) (value-at (place 5) (omega arith)))
 
   module _ (clear : clash ss ≡ false) where
     pub owner-good : OwnerOrNone (ownerOf ss)
-    unfolding clash place placeIn numbers
+    unfolding clash
     owner-good =
-        let isil : List ℕ = getD ss 1 [] in
-        let other : List ℕ = getD ss 6 [] in
-        let v3 = value-at 1 (omega arith) in
-        let v23 = value-at 6 (omega arith) in
+        let isil : List ℕ = slot ss 3 in
+        let other : List ℕ = slot ss 23 in
+        let v3 = value-at (place 3) (omega arith) in
+        let v23 = value-at (place 23) (omega arith) in
         record {
           kind = owner-either isil other (value-isil isil v3) (value-alternative other v23) (or-false _ _ clear .0);
           short = either (λ s. length s ≤ 255) (isEmpty isil) other isil (value-short 23 other v23) (value-short 3 isil v3);
@@ -127,7 +120,7 @@ module _ {src made ats lens d : List ℕ} (p : Draftable src made ats lens d) wh
   module _ (n item name behind code : ℕ) (hi : item < places) (hn : name < places) (ei : getD ss item [] ≡ library n ss .item) (en : getD ss name [] ≡ ownerOf ss)
       (eb : behind ≡ (if isEmpty (ownerOf ss) || basicOwner (ownerWidth n) (ownerOf ss) then 0 else length (ownerOf ss))) (ec : code ≡ (if eqb (usageOf ss % 16) 0 then 0 else 1)) where
     abbrev froms : List ℕ
-    froms = getD ats item 0 ∷ getD ats name 0 ∷ getD ats 3 0 ∷ []
+    froms = getD ats item 0 ∷ getD ats name 0 ∷ getD ats (place 5) 0 ∷ []
 
     abbrev sizes : List ℕ
     sizes = getD lens item 0 ∷ behind ∷ code ∷ []
@@ -135,8 +128,8 @@ module _ {src made ats lens d : List ℕ} (p : Draftable src made ats lens d) wh
     owner-long : length (ownerOf ss) ≡ getD lens name 0
     owner-long = ap length (sym en) ∙ length-at ss lens sized name
 
-    usage-long : getD lens 3 0 ≡ 1
-    usage-long = sym (length-at ss lens sized 3) ∙ usage-one
+    usage-long : getD lens (place 5) 0 ≡ 1
+    usage-long = sym (length-at ss lens sized (place 5)) ∙ usage-one
 
     owner-some : behind ≤ getD lens name 0
     owner-some = omega (arith, eb, owner-long, at-most (isEmpty (ownerOf ss) || basicOwner (ownerWidth n) (ownerOf ss)) (length (ownerOf ss)))
@@ -145,7 +138,7 @@ module _ {src made ats lens d : List ℕ} (p : Draftable src made ats lens d) wh
     usage-some = omega (arith, ec, at-most (eqb (usageOf ss % 16) 0) 1)
 
     fields-row : Row src made froms sizes
-    fields-row = next (stands item hi .1) (next (stands-less name behind hn owner-some) (next (stands-less 3 code (omega arith) (omega (arith, usage-some, usage-long))) none))
+    fields-row = next (stands item hi .1) (next (stands-less name behind hn owner-some) (next (stands-less (place 5) code (omega arith) (omega (arith, usage-some, usage-long))) none))
 
     fields-few : Few sizes
     unfolding all
@@ -162,15 +155,15 @@ module _ {src made ats lens d : List ℕ} (p : Draftable src made ats lens d) wh
         go true e = rw e
         go false e = rw (e ∙ owner-long) (slot-is name hn ∙ en)
 
-    usage-field : part (getD ats 3 0) code (src ++ made) ≡ trim (library n ss .usage) []
-    unfolding library numbers trim place placeIn
+    usage-field : part (getD ats (place 5) 0) code (src ++ made) ≡ trim (library n ss .usage) []
+    unfolding library trim
     usage-field = go (eqb (usageOf ss % 16) 0) refl ec
       where
-        go : (t : Bool) → eqb (usageOf ss % 16) 0 ≡ t → code ≡ (if t then 0 else 1) → part (getD ats 3 0) code (src ++ made) ≡ trim (if t then 0 else usageOf ss) []
+        go : (t : Bool) → eqb (usageOf ss % 16) 0 ≡ t → code ≡ (if t then 0 else 1) → part (getD ats (place 5) 0) code (src ++ made) ≡ trim (if t then 0 else usageOf ss) []
         go true z e = rw e
         go false z e =
             let some : usageOf ss ≡ 0 → ⊥ = λ h. eqb-false (usageOf ss % 16) 0 z (rw h) in
-            rw (e ∙ sym usage-long) (slot-is 3 (omega arith) ∙ value-usage (getD ss 3 []) (value-at 3 (omega arith))) ∙ sym (trim-other (usageOf ss) [] some)
+            rw (e ∙ sym usage-long) (slot-is (place 5) (omega arith) ∙ value-usage (slot ss 5) (value-at (place 5) (omega arith))) ∙ sym (trim-other (usageOf ss) [] some)
 
     pub fields-found : Fielded src made froms sizes (library n ss)
     unfolding slotsAt
@@ -254,9 +247,9 @@ module _ {ss : List (List ℕ)} {blocks d₀ : List ℕ} (p : Ready ss blocks d�
   abbrev pub blocked : List ℕ
   blocked = owned ++ blockOne (library n ss)
 
-  pub first : (item info d₁ : List ℕ) (usage : ℕ) → item ≡ getD ss 0 [] → info ≡ getD ss 2 [] → usage ≡ getD (getD ss 3 []) 0 0
+  pub first : (item info d₁ : List ℕ) (usage : ℕ) → item ≡ slot ss 1 → info ≡ slot ss 4 → usage ≡ getD (slot ss 5) 0 0
       → stored d₀ 0 (firstByte usage ∷ getD info 0 0 ∷ getD info 2 0 ∷ itemField item) 19 d₁ → On 0 d₀ headed 21 d₁
-  unfolding front place placeIn numbers
+  unfolding front
   first item info d₁ usage ei es eu e =
       let l = p .least in
       gap (put (start 0 d₀ (omega arith) (blank-all d₀ (p .blank))) (front ss) d₁ 19 (omega arith) (rw (ei, es, eu) at e)) 2 (omega arith)

@@ -11,7 +11,6 @@ use Rattle.format.specs.Crc.{crcBit, crcBits, crcByte, crcFrom, crc, covered}
 use Rattle.format.specs.Text.{rows, after, rowsFrom, text}
 use Rattle.format.specs.Fields.{capital, unitByte, isilOf, isil, alternative, isOwner, goodItem, prefixIn, ownerSaid, goodOwner}
 use Rattle.format.specs.Chain.{named, summed, wellFormed, damageSteps, walk, chain, blockOf, otherBlocks, payload, fieldsIn, beyond, libraryIn, goodLibrary}
-use Rattle.format.specs.Elements.{numbers}
 use Rattle.format.specs.Sheet.{heads, bodies, sheetOf, offsetsFit, entriesAt, carriedEntries, entries}
 use Rattle.format.specs.Reading.{goodFields, agree, ownerOn, contentIn, tagSteps}
 use Rattle.format.specs.Calls.{readSteps}
@@ -97,5 +96,5 @@ refused16 =
 
 pub examples : (listing wholeTag ≡ wholeText) × (listing bookTag ≡ bookText) × (listing (zeros 36) ≡ refused3) × (listing [] ≡ refused1) × (listing (zeros 2049) ≡ refused1)
     × (listing damagedTag ≡ refused16)
-unfolding need needAt inOrder andThen orElse passed all oneOf same le16 word padWith trim strip upTo past xorAll joined goodSize crcBit crcBits crcByte crcFrom crc covered rows after rowsFrom text capital unitByte isilOf isil alternative isOwner goodItem prefixIn ownerSaid goodOwner named summed wellFormed damageSteps walk chain blockOf otherBlocks payload fieldsIn beyond libraryIn goodLibrary numbers heads bodies sheetOf offsetsFit entriesAt carriedEntries entries goodFields agree ownerOn contentIn tagSteps readSteps digits decimal hexDigit hexOf lineOf linesOf elementsText placedText listed listing
+unfolding need needAt inOrder andThen orElse passed all oneOf same le16 word padWith trim strip upTo past xorAll joined goodSize crcBit crcBits crcByte crcFrom crc covered rows after rowsFrom text capital unitByte isilOf isil alternative isOwner goodItem prefixIn ownerSaid goodOwner named summed wellFormed damageSteps walk chain blockOf otherBlocks payload fieldsIn beyond libraryIn goodLibrary heads bodies sheetOf offsetsFit entriesAt carriedEntries entries goodFields agree ownerOn contentIn tagSteps readSteps digits decimal hexDigit hexOf lineOf linesOf elementsText placedText listed listing
 examples = (refl, refl, refl, refl, refl, refl)

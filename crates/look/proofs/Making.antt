@@ -7,6 +7,7 @@ use lib.ListN.{length, take, drop, getD, set, length-set}
 use lib.Seq.{drop-cons, drop-drop, sets, sets-eq}
 use Rattle.format.specs.Bytes.{part, filled}
 use Rattle.format.specs.Fields.{hyphen}
+use Rattle.format.specs.Elements.{places, place}
 use Rattle.format.specs.Pieces.{stored}
 use Rattle.format.proofs.Pieces.{stored-then}
 use Rattle.format.proofs.Strings.{all-opened}
@@ -46,8 +47,7 @@ made-set t o l d e₁ e₂ =
 
 -- ---- the row: each place is stored to
 
-pub row-set : (l : List ℕ) {l₁ l₂ l₃ l₄ l₅ : List ℕ} {n : ℕ} (a b e f g h i : ℕ) → l₁ ≡ set (set l 0 a) 5 h → length l₁ ≡ 7
-    → l₂ ≡ set l₁ 2 e → l₃ ≡ set l₂ 3 f → l₄ ≡ set l₃ 4 n → n ≡ g → l₅ ≡ set (set l₄ 6 i) 1 b → l₅ ≡ a ∷ b ∷ e ∷ f ∷ g ∷ h ∷ i ∷ []
-row-set l a b e f g h i e₁ k e₂ e₃ e₄ m e₅ =
-    let k₀ : length l ≡ 7 = simp length-set at (rw e₁ at k) in
-    rw (e₅, e₄, m, e₃, e₂, e₁) (ap (λ (m : List ℕ). set (set (set (set (set (set (set m 0 a) 5 h) 2 e) 3 f) 4 g) 6 i) 1 b) (all-opened 0 7 l k₀))
+pub row-set : (l : List ℕ) {l₁ l₂ l₃ l₄ l₅ : List ℕ} {n a b e f g h i : ℕ} → l₁ ≡ set (set l (place 1) a) (place 22) h → length l₁ ≡ places
+    → l₂ ≡ set l₁ (place 4) e → l₃ ≡ set l₂ (place 5) f → l₄ ≡ set l₃ (place 19) n → n ≡ g → l₅ ≡ set (set l₄ (place 23) i) (place 3) b → l₅ ≡ a ∷ b ∷ e ∷ f ∷ g ∷ h ∷ i ∷ []
+row-set l e₁ k e₂ e₃ e₄ m e₅ =
+    let k₀ : length l ≡ places = simp length-set at (rw e₁ at k) in rw (e₅, e₄, m, e₃, e₂, e₁, all-opened 0 places l k₀)

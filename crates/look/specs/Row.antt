@@ -11,6 +11,7 @@ use Rattle.format.specs.declared.Part.{Part}
 use Rattle.format.specs.Bytes.{if_then_else_, part}
 use Rattle.format.specs.Pieces.{from, nowhere}
 use Rattle.format.specs.Fields.{hyphen, alternate}
+use Rattle.format.specs.Elements.{place}
 use Rattle.format.specs.Reading.{mainUsage}
 use Rattle.fields.specs.declared.ItemParts.{ItemParts}
 use Rattle.fields.specs.declared.OwnerParts.{OwnerParts}
@@ -119,6 +120,6 @@ pub record RowLies (t : List ℕ) (block : ℕ) (o : OwnerParts) (l : LibraryPar
 
 -- what laying down the owner leaves
 pub record OwnerHeld (t : List ℕ) (at : ℕ) (o : OwnerParts) (l : LibraryParts) (ats lens made ats′ lens′ made′ : List ℕ) : Type 0 where
-  pub ats-left : ats′ ≡ set (set ats 6 (alternativeOwnerBy t at o l .at)) 1 (isilBy t at o l .at)
-  pub lens-left : lens′ ≡ set (set lens 6 (alternativeOwnerBy t at o l .len)) 1 (isilBy t at o l .len)
+  pub ats-left : ats′ ≡ set (set ats (place 23) (alternativeOwnerBy t at o l .at)) (place 3) (isilBy t at o l .at)
+  pub lens-left : lens′ ≡ set (set lens (place 23) (alternativeOwnerBy t at o l .len)) (place 3) (isilBy t at o l .len)
   pub made-left : made′ ≡ stead 5 (isilBytes t o l) made

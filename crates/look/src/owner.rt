@@ -48,19 +48,20 @@ pub fn hold_owner(
 {
     if library.owner != 0 {
         if begins_alternative(tag[at]) {
-            hold(ats, lens, 6, at, library.owner);
-            hold(ats, lens, 1, 0, 0);
+            hold(ats, lens, rows::OTHER_OWNER, at, library.owner);
+            hold(ats, lens, rows::ISIL, 0, 0);
             return;
         }
-        hold(ats, lens, 6, 0, 0);
-        hold(ats, lens, 1, at, library.owner);
+        hold(ats, lens, rows::OTHER_OWNER, 0, 0);
+        hold(ats, lens, rows::ISIL, at, library.owner);
         return;
     }
-    hold(ats, lens, 6, 23, owner.alternative);
+    hold(ats, lens, rows::OTHER_OWNER, 23, owner.alternative);
     if owner.prefix == 0 {
-        hold(ats, lens, 1, 0, 0);
+        hold(ats, lens, rows::ISIL, 0, 0);
         return;
     }
     hyphened(tag, owner.prefix, owner.isil, made);
-    hold(ats, lens, 1, tag.len() + 5, owner.prefix + 1 + owner.isil);
+    let len = owner.prefix + 1 + owner.isil;
+    hold(ats, lens, rows::ISIL, tag.len() + 5, len);
 }

@@ -8,6 +8,7 @@ ghost use mathlib.Core.Path.{_≡_};
 ghost use Prim.Native.Nat.{_+_, _≤_, _<_};
 ghost use lib.ListN.{length, set};
 ghost use Rattle.format.specs.Bytes.{filled};
+ghost use Rattle.format.specs.Elements.{place};
 ghost use Rattle.format.specs.Pieces.{nowhere};
 ghost use Rattle.look.specs.Row.{mediaLength, usageBy, frontMade, itemBy, alternativeItemBy, pieceBy, atsBy, lensBy, madeBy, RowLies};
 
@@ -60,15 +61,15 @@ fn hold_items(
     lens: &mut [usize; PLACES],
 )
     requires { ⌜ block ≤ 2048 ⌝ }
-    ensures { λ _. ⌜ (now (ats .exit) ≡ set (set (now (ats .entry)) 0 (itemBy block item library .at)) 5 (alternativeItemBy block item library .at))
-        × (now (lens .exit) ≡ set (set (now (lens .entry)) 0 (itemBy block item library .len)) 5 (alternativeItemBy block item library .len)) ⌝ }
+    ensures { λ _. ⌜ (now (ats .exit) ≡ set (set (now (ats .entry)) (place 1) (itemBy block item library .at)) (place 22) (alternativeItemBy block item library .at))
+        × (now (lens .exit) ≡ set (set (now (lens .entry)) (place 1) (itemBy block item library .len)) (place 22) (alternativeItemBy block item library .len)) ⌝ }
 {
     if item.marked {
-        hold(ats, lens, 0, block + 5, library.item);
-        hold(ats, lens, 5, 0, 0);
+        hold(ats, lens, rows::ITEM, block + 5, library.item);
+        hold(ats, lens, rows::OTHER_ITEM, 0, 0);
     } else {
-        hold(ats, lens, 0, 3, item.len);
-        hold(ats, lens, 5, block + 5, library.item);
+        hold(ats, lens, rows::ITEM, 3, item.len);
+        hold(ats, lens, rows::OTHER_ITEM, block + 5, library.item);
     }
 }
 
@@ -92,9 +93,10 @@ pub fn fill_row(
     let n = tag.len();
     make_front(tag, library, made);
     hold_items(block, item, library, ats, lens);
-    hold(ats, lens, 2, n, 4);
-    hold(ats, lens, 3, n + 4, 1);
-    hold(ats, lens, 4, block + 4, media_length(library.media));
+    hold(ats, lens, rows::SET, n, 4);
+    hold(ats, lens, rows::USAGE, n + 4, 1);
+    let media = media_length(library.media);
+    hold(ats, lens, rows::MEDIA, block + 4, media);
     crate::owner::hold_owner(
         tag,
         block + 6 + library.item,

@@ -108,7 +108,6 @@ module _ {t made ats lens : List ℕ} {count size : ℕ} {blocks : List ℕ} {m 
   lengths = lengths-are t made ats lens (x .given .row)
 
   told : (m ≡ length row) × (k ≡ length (joined slots)) × (bodies row ≡ joined slots)
-  unfolding numbers
   told =
       let l = row-lengths t made ats lens (x .given .row) in
       let r = row-tell numbers slots (omega (arith, x .each, slots-length (t ++ made) ats lens l)) in

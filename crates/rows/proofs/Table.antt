@@ -15,25 +15,21 @@ pub record Sought (n k : ℕ) : Type 0 where
   pub on : k + placeIn (drop k numbers) n ≡ place n
 
 pub sought-start : (n : ℕ) → Sought n 0
-unfolding place
 sought-start n = record { inside = omega arith; on = zero-add (placeIn numbers n) }
 
 module _ (n k : ℕ) (s : Sought n k) where
   pub sought-found : k < length numbers → getD numbers k 0 ≡ n → k ≡ place n
-  unfolding placeIn
   sought-found h e =
       let here : placeIn (drop k numbers) n ≡ 0 = rw (drop-cons numbers k 0 h, eq-eqb (getD numbers k 0) n e) in
       omega (arith, s .on, here)
 
   pub sought-on : k < length numbers → (getD numbers k 0 ≡ n → ⊥) → Sought n (k + 1)
-  unfolding placeIn
   sought-on h e =
       let there : placeIn (drop k numbers) n ≡ suc (placeIn (drop (suc k) numbers) n) = rw (drop-cons numbers k 0 h, ne-eqb (getD numbers k 0) n e) in
       let one : placeIn (drop (k + 1) numbers) n ≡ placeIn (drop (suc k) numbers) n = ap (λ (i : ℕ). placeIn (drop i numbers) n) (add-one k) in
       record { inside = omega (arith, h); on = omega (arith, s .on, there, one) }
 
   pub sought-over : length numbers ≤ k → k ≡ place n
-  unfolding placeIn
   sought-over h =
       let none : placeIn (drop k numbers) n ≡ 0 = rw (drop-of-length-le numbers {i = k} h) in
       omega (arith, s .on, none)

@@ -7,7 +7,21 @@ ghost use Rattle.format.specs.Bytes.{part};
 ghost use Rattle.format.specs.Elements.{numbers, place};
 ghost use Rattle.rows.specs.Rows.{Stands};
 
-// How many places the table has.
+// The places of the table by what stands there, and how many they are.
+pub const ITEM: usize = 0;
+
+pub const ISIL: usize = 1;
+
+pub const SET: usize = 2;
+
+pub const USAGE: usize = 3;
+
+pub const MEDIA: usize = 4;
+
+pub const OTHER_ITEM: usize = 5;
+
+pub const OTHER_OWNER: usize = 6;
+
 pub const PLACES: usize = 7;
 
 const NUMBERS: [u8; PLACES] = [1, 3, 4, 5, 19, 22, 23];

@@ -103,7 +103,7 @@ pub record Found (s : List ℕ) : Type 0 where
   pub carried : drop (carriedAt s) s ≡ joined (sheetContent s .carried)
 
 pub scan-found : (s : List ℕ) → rightSheet s ≡ true → goodValues (entriesIn s) ≡ true → Found s
-unfolding contentOf entries laid distinct apart all numbers
+unfolding contentOf entries laid distinct apart all
 scan-found s e g =
     let es : List Entry = entriesIn s in
     let ss : List (List ℕ) = sheetContent s .slots in

@@ -158,7 +158,7 @@ pub record Judging (s : List ℕ) (i at : ℕ) (set usage : Bool) : Type 0 where
   pub values : valuesDecide rest set usage ≡ goodValues (entriesIn s)
 
 pub judging-start : (s : List ℕ) → rightSheet s ≡ true → Judging s 0 (bodyIn s) false false
-unfolding goodValues all numbers
+unfolding goodValues all
 judging-start s e =
     let es : List Entry = entriesIn s in
     record { rest = es; walks = walking-start s e; values = ap (λ (t : Bool). all formed es && (there 4 es && t)) (sym (and-true (there 5 es))) }
@@ -234,7 +234,6 @@ module _ {s : List ℕ} {i k at : ℕ} {ats lens : List ℕ} (f : Filling s i k 
 
   -- the first place that is left is k
   here : drop k numbers ≡ getD numbers k 0 ∷ drop (k + 1) numbers
-  unfolding numbers
   here = rw add-one (drop-cons numbers k 0 place)
 
   passed : left k (f .rest) ≡ 0 ∷ left (k + 1) (f .rest) → Filling s i (k + 1) at (set ats k at) (set lens k 0)
@@ -265,7 +264,7 @@ module _ {s : List ℕ} {i k at : ℕ} {ats lens : List ℕ} (f : Filling s i k 
         passed (ap₂ lengthsOf here z ∙ rw (ne-eqb (r .number) (getD numbers k 0) e) (ap (λ (l : List Entry). 0 ∷ left (k + 1) l) (sym z)))
 
 pub filling-end : {s : List ℕ} {i k at : ℕ} {ats lens : List ℕ} → Filling s i k at ats lens → places ≤ k → (at ≡ carriedAt s) × (ats ≡ atsIn s) × (lens ≡ lensIn s)
-unfolding numbers lengthsOf startsOf endOf
+unfolding lengthsOf startsOf endOf
 filling-end {s} {i} {k} {at} {ats} {lens} f h =
     let z : left k (f .rest) ≡ [] = ap (λ (ns : List ℕ). lengthsOf ns (f .rest)) (drop-of-length-le numbers h) in
     let a : take k ats ≡ ats = take-all k ats (omega (arith, f .ats-long)) in

@@ -3,7 +3,7 @@ use mathlib.Core.Path.{ap}
 use Prim.Native.Nat.{ℕ, _+_, _<_}
 use native.Mathlib.Omega.{arith}
 use lib.ListN.{length, getD, set}
-use Rattle.format.specs.Elements.{places, numbers}
+use Rattle.format.specs.Elements.{places}
 use Rattle.format.proofs.Slots.{known-at}
 use borrow.Author.Needs.{needs}
 use Rattle.editing.proofs.put.Statement.{statement}
@@ -14,7 +14,6 @@ place-of-requires c κs = search needs
 
 -- a known number has a place
 within : (k : tie.After-place-of) → k .place-of .result < places
-unfolding numbers
 within k = omega (arith, k .place-of .ensures, known-at _ (k .before .before .pre .0) .0)
 
 mul-t9 : tie.Need-mul-t9

@@ -3,12 +3,12 @@ use mathlib.Core.Path.{ap}
 use Prim.Native.Nat.{ℕ}
 use lib.Dec.{ltb}
 use borrow.Author.Needs.{needs}
-use Rattle.format.specs.Elements.{places, numbers, known}
+use Rattle.format.specs.Elements.{places, known}
 use Rattle.elements.proofs.known.Statement.{statement}
 use Rattle.elements.proofs.known.Tie as tie
 
 returns : tie.Need-returns
-unfolding known numbers
+unfolding known
 returns c = ap (λ (k : ℕ). ltb k places) (c .place-of .ensures)
 
 pub known-spec : {M : Type 1} → statement M

@@ -9,7 +9,7 @@ use lib.ListN.{length, getD}
 use borrow.Author.Needs.{needs}
 use Rattle.format.specs.Answers.{need, inOrder, afterwards}
 use Rattle.format.specs.Chain.{blockOne}
-use Rattle.format.specs.Elements.{numbers, placeIn, place, clash}
+use Rattle.format.specs.Elements.{place, slot, clash}
 use Rattle.format.specs.Layout.{ownerWidth, ownerOf, library, hasLayout}
 use Rattle.format.proofs.Tests.{not-t, not-f}
 use Rattle.image.specs.Laying.{OwnerOrNone, On}
@@ -39,17 +39,17 @@ owner-is c = let p = from-owner c .pre in c .slot .ensures ∙ slot-is p _ (c .b
 owner-fine : (c : tie.After-slot) → OwnerOrNone (c .slot .result .now)
 owner-fine c = rw (owner-is c) (owner-good (from-owner c .pre) (clear c))
 
-usage-is : (c : tie.After-slot2) → c .slot2 .result .now ≡ getD (ss (from-owner (c .before) .pre)) 3 []
-usage-is c = c .slot2 .ensures ∙ slot-is (from-owner (c .before) .pre) 3 (omega arith)
+usage-is : (c : tie.After-slot2) → c .slot2 .result .now ≡ slot (ss (from-owner (c .before) .pre)) 5
+usage-is c = c .slot2 .ensures ∙ slot-is (from-owner (c .before) .pre) (place 5) (omega arith)
 
 abbrev to-owner : tie.After-usage-behind → tie.After-slot
 to-owner c = c .before .before .before .before .before .before .before .before .before .before
 
 fields : (c : tie.After-usage-behind) → let s = from-owner (to-owner c) in
     Fielded (s .args .src .now) (s .args .made .now)
-    (getD (s .args .ats .now) (c .before .before .before .before .before .before .before .before .before .before .before .before .item-place .result) 0 ∷ getD (s .args .ats .now) (c .before .before .before .before .before .before .before .before .before .before .before .owner-place .result) 0 ∷ getD (s .args .ats .now) 3 0 ∷ [])
+    (getD (s .args .ats .now) (c .before .before .before .before .before .before .before .before .before .before .before .before .item-place .result) 0 ∷ getD (s .args .ats .now) (c .before .before .before .before .before .before .before .before .before .before .before .owner-place .result) 0 ∷ getD (s .args .ats .now) (place 5) 0 ∷ [])
     (getD (s .args .lens .now) (c .before .before .before .before .before .before .before .before .before .before .before .before .item-place .result) 0 ∷ c .before .before .before .before .before .owner-behind .result ∷ c .usage-behind .result ∷ []) (library (n s) (ss (s .pre)))
-unfolding library numbers placeIn place
+unfolding library
 fields c =
     let s = from-owner (to-owner c) in
     let p = s .pre in
@@ -59,8 +59,8 @@ fields c =
     (rw (owner-is (to-owner c)) at (c .before .before .before .before .before .owner-behind .ensures)) (rw (usage-is (c .before .before .before .before .before .before .before .before .before)) at (c .usage-behind .ensures))
 
 media-is : (c : tie.After-byte-at) → let s = from-owner (c .before .before .before .before) in c .byte-at .result ≡ library (n s) (ss (s .pre)) .media
-unfolding library numbers placeIn place
-media-is c = c .byte-at .ensures ∙ ap (λ (x : List ℕ). getD x 0 0) (c .before .slot3 .ensures ∙ slot-is (from-owner (c .before .before .before .before) .pre) 4 (omega arith))
+unfolding library
+media-is c = c .byte-at .ensures ∙ ap (λ (x : List ℕ). getD x 0 0) (c .before .slot3 .ensures ∙ slot-is (from-owner (c .before .before .before .before) .pre) (place 19) (omega arith))
 
 abbrev from-size : tie.After-block-size → tie.Start
 from-size c = from-owner (to-owner (c .before .before))
@@ -87,7 +87,7 @@ returns-2 c = let h = c .before in record { answered = rw (clear (to-owner (h .b
 put-front-requires : tie.Need-put-front-requires
 put-front-requires c κs =
     let s = from-size (c .before .before .before .before .before) in
-    (blank-all (s .args .draft .now) (s .pre .blank), omega (arith, s .pre .size), ap length (c .slot5 .ensures ∙ slot-is (s .pre) 2 (omega arith)) ∙ set-four (s .pre))
+    (blank-all (s .args .draft .now) (s .pre .blank), omega (arith, s .pre .size), ap length (c .slot5 .ensures ∙ slot-is (s .pre) (place 4) (omega arith)) ∙ set-four (s .pre))
 
 -- ---- the layout, piece by piece
 
@@ -103,7 +103,7 @@ ready c =
 on-front : (c : tie.After-put-front) → On 0 (from-size (to-size c) .args .draft .now) (headed (ready c)) 21 (c .put-front .last .0)
 on-front c =
     let p = from-size (to-size c) .pre in
-    first (ready c) _ _ _ _ (c .before .before .slot4 .ensures ∙ slot-is p 0 (omega arith)) (c .before .slot5 .ensures ∙ slot-is p 2 (omega arith))
+    first (ready c) _ _ _ _ (c .before .before .slot4 .ensures ∙ slot-is p (place 1) (omega arith)) (c .before .slot5 .ensures ∙ slot-is p (place 4) (omega arith))
     (ap (λ (x : List ℕ). getD x 0 0) (usage-is (to-size c .before .before .before .before .before .before .before .before .before .before .before))) (c .put-front .ensures)
 
 abbrev owner-on : tie.After-put-front → tie.After-slot
@@ -180,7 +180,7 @@ draft-spec =
     tie.close
     (tie.spec (λ c κs. search needs) returns (λ c κs. search needs) (λ c κs. search needs)
     (λ c κs. stands (c .before .before .before .before .before .before .before .before .pre) _ (c .owner-place .ensures .0))
-    (λ c κs. stands (from-owner c .pre) 3 (omega arith)) shared-slice-read-usage (λ c κs. stands (from-owner (c .before .before) .pre) 4 (omega arith))
+    (λ c κs. stands (from-owner c .pre) (place 5) (omega arith)) shared-slice-read-usage (λ c κs. stands (from-owner (c .before .before) .pre) (place 19) (omega arith))
     (λ c κs. search needs) (λ c κs. (owner-fine (c .before .before .before .before), omega (arith, from-owner (c .before .before .before .before) .pre .size)))
     (λ c. omega (arith, c .before .before .before .before .before .before .before .item-place .ensures .0))
     (λ c. c .before .before .before .before .before .before .before .item-place .ensures .0)
@@ -188,7 +188,7 @@ draft-spec =
     (λ c. c .before .before .before .before .before .before .before .owner-place .ensures .0) (λ c. search needs)
     (λ c. omega (arith, c .before .before .before .before .before .before .before .before .before .before .item-place .ensures .0))
     (λ c. c .before .before .before .before .before .before .before .before .before .before .item-place .ensures .0) (λ c κs. search needs) (λ c. refl)
-    (λ c κs. fields (c .before) .few) (λ c κs. from-size c .pre .size) returns-2 (λ c κs. stands (from-size (c .before .before .before) .pre) 0 (omega arith))
-    (λ c κs. stands (from-size (c .before .before .before .before) .pre) 2 (omega arith)) put-front-requires put-owner-requires
+    (λ c κs. fields (c .before) .few) (λ c κs. from-size c .pre .size) returns-2 (λ c κs. stands (from-size (c .before .before .before) .pre) (place 1) (omega arith))
+    (λ c κs. stands (from-size (c .before .before .before .before) .pre) (place 4) (omega arith)) put-front-requires put-owner-requires
     (λ c κs. omega (arith, ready (c .before .before .before .before .before .before) .least)) (λ c. search needs) (λ c. refl) (λ c. refl) put-library-requires
     add-put-bytes put-bytes-requires same-length returns-3)

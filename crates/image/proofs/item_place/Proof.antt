@@ -4,11 +4,6 @@ use Rattle.image.proofs.Placing.{item-long, item-short}
 use Rattle.image.proofs.item_place.Statement.{statement}
 use Rattle.image.proofs.item_place.Tie as tie
 
-returns : tie.Need-returns
-returns c = (search needs, λ ss s. item-long ss _ s (c .if1 .taken))
-
-returns-2 : tie.Need-returns-2
-returns-2 c = (search needs, λ ss s. item-short ss _ s (c .if1 .left))
-
 pub item-place-spec : {M : Type 1} → statement M
-item-place-spec = tie.close (tie.spec (λ c. search needs) returns returns-2)
+item-place-spec =
+    tie.close (tie.spec (λ c. search needs) (λ c. (search needs, λ ss s. item-long ss _ s (c .if1 .taken))) (λ c. (search needs, λ ss s. item-short ss _ s (c .if1 .left))))

@@ -31,14 +31,13 @@ here : (c : tie.In-loop Inv-loop μ-loop) → (c .before .loop .k < length (lens
 here c = let p = c .before .before .before .pre .1 in (omega (arith, p .each), bytes-at (c .before .loop .k) (lens c) (p .small))
 
 put-head-requires : tie.Need-put-head-requires Inv-loop μ-loop
-unfolding numbers le16
+unfolding le16
 put-head-requires c κs =
     let d = c .before .before .before .before in
     let l = d .before .loop in
     (here d .1, next-room (l .inv .2) (heads-some (l .from) numbers (lens d) (l .k) (d .loop-test .taken) (here d .0) (c .before .before .if1 .taken)))
 
 loop-again : tie.Need-loop-again Inv-loop μ-loop
-unfolding numbers
 loop-again c =
     let d = c .before .before in
     let l = d .before .loop in
@@ -49,7 +48,7 @@ loop-again c =
     (c .if1 .came)
 
 returns : tie.Need-returns Inv-loop μ-loop
-unfolding numbers headsBy
+unfolding headsBy
 returns c = storing-end (c .before .loop .inv .2) (rw (drop-of-length-le numbers {i = c .before .loop .k} (c .loop-test .left)))
 
 pub numbered-heads-spec : {M : Type 1} → statement M

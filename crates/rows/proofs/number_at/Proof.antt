@@ -7,11 +7,9 @@ use Rattle.rows.proofs.number_at.Statement.{statement}
 use Rattle.rows.proofs.number_at.Tie as tie
 
 returns : tie.Need-returns
-unfolding numbers
 returns c = refl
 
 returns-2 : tie.Need-returns-2
-unfolding numbers
 returns-2 c = sym (List·getD-eq-default numbers 0 (c .if1 .left))
 
 pub number-at-spec : {M : Type 1} → statement M

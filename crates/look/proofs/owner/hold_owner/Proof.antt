@@ -9,6 +9,7 @@ use borrow.Author.Tests.{eq-eqb, ne-eqb}
 use Rattle.format.specs.declared.Part.{Part}
 use Rattle.fields.specs.declared.OwnerParts.{OwnerParts}
 use Rattle.fields.specs.declared.LibraryParts.{LibraryParts}
+use Rattle.format.specs.Elements.{place}
 use Rattle.format.specs.Pieces.{from, nowhere}
 use Rattle.look.specs.Row.{isilBytes, isilBy, alternativeOwnerBy, stead, IsilLies, OwnerHeld}
 use Rattle.look.proofs.owner.hold_owner.Statement.{statement}
@@ -19,7 +20,7 @@ abbrev Stored : List ℕ → List ℕ → ℕ → Part → List ℕ → List ℕ
 Stored ats lens k p ats′ lens′ = (ats′ ≡ set ats k (p .at)) × (lens′ ≡ set lens k (p .len))
 
 both : (t : List ℕ) (at : ℕ) (o : OwnerParts) (l : LibraryParts) (a b m : List ℕ) {a₁ b₁ a₂ b₂ m₁ : List ℕ} (other isil : Part) → alternativeOwnerBy t at o l ≡ other
-    → isilBy t at o l ≡ isil → Stored a b 6 other a₁ b₁ → Stored a₁ b₁ 1 isil a₂ b₂ → m₁ ≡ stead 5 (isilBytes t o l) m → OwnerHeld t at o l a b m a₂ b₂ m₁
+    → isilBy t at o l ≡ isil → Stored a b (place 23) other a₁ b₁ → Stored a₁ b₁ (place 3) isil a₂ b₂ → m₁ ≡ stead 5 (isilBytes t o l) m → OwnerHeld t at o l a b m a₂ b₂ m₁
 both t at o l a b m other isil eo ei f g e = record { ats-left = rw (eo, ei, g .0, f .0); lens-left = rw (eo, ei, g .1, f .1); made-left = e }
 
 returns : tie.Need-returns
@@ -74,5 +75,5 @@ hold-owner-spec =
     tie.close
     (tie.spec (λ c. let some = c .before .if1 .taken in omega (arith, some, c .before .before .before .before .pre .block some)) (λ c κs. search needs)
     (λ c κs. search needs) (λ c κs. search needs) returns (λ c κs. search needs) (λ c κs. search needs) returns-2 (λ c κs. search needs) (λ c κs. search needs) returns-3
-    (λ c κs. isil (c .before)) (λ c. search needs) (λ c. let i = isil (c .before .before .before .before .before) in record { fits = omega (arith, i .short) })
-    (λ c. let i = isil (c .before .before .before .before .before .before) in record { fits = omega (arith, i .short, i .fits) }) (λ c κs. search needs) returns-4)
+    (λ c κs. isil (c .before)) (λ c. let i = isil (c .before .before .before) in record { fits = omega (arith, i .short) })
+    (λ c. let i = isil (c .before .before .before .before) in record { fits = omega (arith, i .short, i .fits) }) (λ c. search needs) (λ c κs. search needs) returns-4)

@@ -27,15 +27,15 @@ returns c =
     let h₂ = k .before .before .before .before .hold2 .ensures in
     let h₁ = first k .hold .ensures in
     let i = items k .hold-items .ensures in (
-      row-set (s .args .ats .now) _ _ _ _ _ _ _ (i .0) (first k .before .before .hold-arg .given .0 .1) (h₁ .0) (h₂ .0) (h₃ .0) refl (o .ats-left),
-      row-set (s .args .lens .now) _ _ _ _ _ _ _ (i .1) (first k .before .hold-arg2 .given .0 .1) (h₁ .1) (h₂ .1) (h₃ .1) (k .before .media-length .ensures) (o .lens-left),
+      row-set (s .args .ats .now) (i .0) (first k .before .before .hold-arg .given .0 .1) (h₁ .0) (h₂ .0) (h₃ .0) refl (o .ats-left),
+      row-set (s .args .lens .now) (i .1) (first k .before .hold-arg2 .given .0 .1) (h₁ .1) (h₂ .1) (h₃ .1) (k .before .before .before .media-length .ensures) (o .lens-left),
       made-set (s .args .tag .now) (s .args .owner) (s .args .library) (s .args .made .now) (items k .before .before .before .make-front .ensures) (o .made-left),
     )
 
 pub fill-row-spec : {M : Type 1} → statement M
 fill-row-spec =
     tie.close
-    (tie.spec (λ c κs. search needs) (λ c κs. search needs) (λ c κs. search needs) (λ c. search needs) (λ c κs. search needs) (λ c. search needs)
-    (λ c κs. search needs) (λ c κs. search needs) (λ c. let p = at-start c .pre in record { fits = omega (arith, p .begins, p .owner .size) })
+    (tie.spec (λ c κs. search needs) (λ c κs. search needs) (λ c κs. search needs) (λ c. search needs) (λ c κs. search needs) (λ c κs. search needs)
+    (λ c. search needs) (λ c κs. search needs) (λ c. let p = at-start c .pre in record { fits = omega (arith, p .begins, p .owner .size) })
     (λ c. let p = at-start (c .before) .pre in record { fits = omega (arith, p .begins, p .item, p .owner .size) })
     (λ c κs. at-start (c .before .before .before .before) .pre .owner) returns)
