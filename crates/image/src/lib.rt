@@ -4,14 +4,7 @@ mod blocks;
 mod sizes;
 
 use format::Stage;
-use rows::ISIL;
-use rows::ITEM;
-use rows::MEDIA;
-use rows::OTHER_ITEM;
-use rows::OTHER_OWNER;
 use rows::PLACES;
-use rows::SET;
-use rows::USAGE;
 ghost use mathlib.Core.Path.{_≡_};
 ghost use mathlib.Core.List.{List, [], _++_};
 ghost use Prim.Native.Nat.{ℕ, _<_};
@@ -28,12 +21,12 @@ ghost use Rattle.image.specs.Drafting.{Draftable, Drafted, sealing};
 fn clashing(lens: &[usize; PLACES]) -> bool
     ensures { λ r. ⌜ ((ss : List (List ℕ)) → Lengths ss (now (lens .entry)) → r ≡ clash ss) ⌝ }
 {
-    if lens[ISIL] != 0 {
-        if lens[OTHER_OWNER] != 0 {
+    if lens[rows::ISIL] != 0 {
+        if lens[rows::OTHER_OWNER] != 0 {
             return true;
         }
     }
-    lens[OTHER_ITEM] != 0 && 16 < lens[ITEM]
+    lens[rows::OTHER_ITEM] != 0 && 16 < lens[rows::ITEM]
 }
 
 // The element at place k of the table.
@@ -54,14 +47,22 @@ fn slot<'a>(
 fn owner_place(lens: &[usize; PLACES]) -> usize
     ensures { λ r. ⌜ (r < places) × ((ss : List (List ℕ)) → Lengths ss (now (lens .entry)) → getD ss r [] ≡ ownerOf ss) ⌝ }
 {
-    if lens[ISIL] == 0 { OTHER_OWNER } else { ISIL }
+    if lens[rows::ISIL] == 0 {
+        rows::OTHER_OWNER
+    } else {
+        rows::ISIL
+    }
 }
 
 // The place of what block 1 has in its item field: an element 1 longer than 16 bytes, else 22.
 fn item_place(lens: &[usize; PLACES]) -> usize
     ensures { λ r. ⌜ (r < places) × ((ss : List (List ℕ)) → Lengths ss (now (lens .entry)) → getD ss r [] ≡ if long (slot ss 1) then slot ss 1 else slot ss 22) ⌝ }
 {
-    if 16 < lens[ITEM] { ITEM } else { OTHER_ITEM }
+    if 16 < lens[rows::ITEM] {
+        rows::ITEM
+    } else {
+        rows::OTHER_ITEM
+    }
 }
 
 // The elements' layout on a draft of 00, but for the CRC: 10 where two clash, 11 where there is no layout.
@@ -83,10 +84,10 @@ pub fn draft<'a>(
     let item = item_place(lens);
     let name = owner_place(lens);
     let owner = slot(src, made, ats, lens, name);
-    let usage = slot(src, made, ats, lens, USAGE)[0];
-    let media = strings::byte_at(slot(src, made, ats, lens, MEDIA), 0);
+    let usage = slot(src, made, ats, lens, rows::USAGE)[0];
+    let media = strings::byte_at(slot(src, made, ats, lens, rows::MEDIA), 0);
     let behind = sizes::owner_behind(owner, n);
-    let places = [ats[item], ats[name], ats[USAGE]];
+    let places = [ats[item], ats[name], ats[rows::USAGE]];
     let long = [lens[item], behind, sizes::usage_behind(usage)];
     let size = sizes::block_size(media, &long);
     if !sizes::has_room(size, carried, n) {
@@ -94,8 +95,8 @@ pub fn draft<'a>(
     }
     basic::put_front(
         draft,
-        slot(src, made, ats, lens, ITEM),
-        slot(src, made, ats, lens, SET),
+        slot(src, made, ats, lens, rows::ITEM),
+        slot(src, made, ats, lens, rows::SET),
         usage,
     );
     basic::put_owner(draft, owner, behind != 0);
