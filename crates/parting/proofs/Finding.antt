@@ -62,7 +62,7 @@ lone-part s h = go (parts s) refl
 -- ---- without an ISIL
 
 placed-lone : (r : List ℕ) → length (partsBehind r) ≤ 1 → partsBehind r ≡ placeIn r
-unfolding partsBehind
+unfolding partsBehind placeIn
 placed-lone [] h = refl
 placed-lone (c ∷ r) h = lone-part r h
 

@@ -81,6 +81,7 @@ other-stands p e = rw e (go (saysSet p))
     go false = refl
 
 pub nothing-stands : (len : ℕ) (rest : List ℕ) → length rest ≤ len → got (numbers 0 0) ≡ standsIn (placeIn (drop len rest))
+unfolding placeIn
 nothing-stands len rest h = none-stands ∙ sym (ap (λ (l : List ℕ). standsIn (placeIn l)) (drop-of-length-le rest h))
 
 module _ (rest : List ℕ) (len : ℕ) (h : len < length rest) where
@@ -89,6 +90,7 @@ module _ (rest : List ℕ) (len : ℕ) (h : len < length rest) where
   behind = take (length rest - (len + 1)) (drop (len + 1) rest)
 
   place : placeIn (drop len rest) ≡ behind ∷ []
+  unfolding placeIn
   place =
       ap placeIn (rest-opened rest len h)
       ∙ sym (ap (λ (p : List ℕ). p ∷ []) (take-all (length rest - (len + 1)) (drop (len + 1) rest) (omega (arith, length-drop (len + 1) rest))))
