@@ -202,13 +202,15 @@ damagedAt k p s =
     let edited = editing pageSize t (zeros (length t / pageSize)) 1 [] [] .answer in
     eqb (numberOf read) k && eqb (placeOf read 0) p && eqb (numberOf edited) k && eqb (placeOf edited 0) p
 
--- each cause; two at one block, where the lower number is given; and a 19 before a 15 at a later block
+-- each cause; two at one block, where the lower number is given; a 19 before a 15 at a later block, and with another block between the two;
+-- and no 19 for an ID that may come again
 damages : Bool
 damages =
     damagedAt 15 34 (2 ∷ 101 ∷ []) && damagedAt 15 35 (1 ∷ 2 ∷ []) && damagedAt 16 34 (0xFF ∷ 0 ∷ []) && damagedAt 16 35 (1 ∷ 3 ∷ [])
     && damagedAt 17 34 (3 ∷ 0 ∷ 0 ∷ 1 ∷ 1 ∷ 1 ∷ []) && damagedAt 17 34 (4 ∷ 0 ∷ 0 ∷ 0 ∷ 0 ∷ 0 ∷ []) && damagedAt 17 37 (3 ∷ 101 ∷ 0 ∷ 3 ∷ 100 ∷ 0 ∷ [])
     && damagedAt 18 34 (4 ∷ 2 ∷ 0 ∷ 0 ∷ 0 ∷ 0 ∷ []) && damagedAt 17 38 (4 ∷ 1 ∷ 0 ∷ 5 ∷ 3 ∷ 1 ∷ 0 ∷ 0 ∷ 0 ∷ 0 ∷ [])
     && damagedAt 18 38 (4 ∷ 1 ∷ 0 ∷ 5 ∷ 4 ∷ 1 ∷ 0 ∷ 0 ∷ 0 ∷ 0 ∷ []) && damagedAt 19 38 (4 ∷ 1 ∷ 0 ∷ 5 ∷ 4 ∷ 1 ∷ 0 ∷ 5 ∷ 2 ∷ 0 ∷ [])
+    && damagedAt 19 41 (4 ∷ 1 ∷ 0 ∷ 5 ∷ 3 ∷ 101 ∷ 0 ∷ 4 ∷ 1 ∷ 0 ∷ 5 ∷ 0 ∷ 0 ∷ 0 ∷ []) && damagedAt 15 40 (3 ∷ 101 ∷ 0 ∷ 3 ∷ 101 ∷ 0 ∷ 2 ∷ 0 ∷ 0 ∷ 0 ∷ [])
 
 -- 95 bytes that are text by themselves, 26 capitals, 65 unit characters
 alphabets : Bool

@@ -1,17 +1,15 @@
 -- Separated fields as the code has them: how long they are by their lengths, and how they are laid down one by one.
 use mathlib.Core.Path.{_≡_, refl, sym, ap, _∙_}
-use Prim.Native.Nat.{ℕ, suc, _+_, _-_, _*_, _≤_, _<_}
+use Prim.Native.Nat.{ℕ, suc, _+_, _-_, _≤_, _<_}
 use mathlib.Core.Logic.{_⊎_, inl, inr}
 use native.Mathlib.Omega.{arith}
-use mathlib.Core.Bool.{Bool, true, false}
 use mathlib.Core.List.{List, [], _∷_, _++_, map, append-nil, append-assoc}
-use lib.Dec.{eqb, leb}
+use lib.Dec.{eqb}
 use lib.ListN.{length, getD, drop, length-append}
-use borrow.Author.Tests.{eq-eqb, ne-eqb, leb-true}
-use Rattle.format.specs.Bytes.{if_then_else_, all, bytes, trim}
+use borrow.Author.Tests.{eq-eqb, ne-eqb}
+use Rattle.format.specs.Bytes.{if_then_else_, trim}
 use Rattle.format.specs.Pieces.{stored}
 use Rattle.format.specs.Chain.{separated}
-use Rattle.format.proofs.Tests.{and-l, and-r}
 use Rattle.format.proofs.Strings.{rest-opened, trim-some}
 use Rattle.format.proofs.Pieces.{stored-none}
 use Rattle.image.specs.Laying.{fieldsSize, Blank, On}
@@ -38,15 +36,6 @@ size-turn lens k n more some h e w =
     let is : drop (k - 1) lens ≡ getD lens (k - 1) 0 ∷ drop (k - 1 + 1) lens = rest-opened lens (k - 1) (omega arith) in
     let on : k - 1 + 1 ≡ k = omega arith in
     sym (ap fieldsSize (is ∙ ap (λ (i : ℕ). getD lens (k - 1) 0 ∷ drop i lens) on) ∙ rw (← e) (elim w [ inl z ↦ rw (eq-eqb n 0 (z .0)) (omega (arith, z)) | inr z ↦ rw (ne-eqb n 0 (z .0)) (omega (arith, z .1)) ]))
-
-pub size-bound : (lens : List ℕ) → bytes lens ≡ true → fieldsSize lens ≤ 256 * length lens
-unfolding all fieldsSize
-size-bound [] e = omega arith
-size-bound (n ∷ lens) e = go (eqb (fieldsSize lens) 0) (size-bound lens (and-r (leb n 255) (bytes lens) e))
-  where
-    go : (t : Bool) → fieldsSize lens ≤ 256 * length lens → n + (if t then 0 else suc (fieldsSize lens)) ≤ 256 * suc (length lens)
-    go true h = omega (arith, leb-true n 255 (and-l (leb n 255) (bytes lens) e))
-    go false h = omega (arith, h, leb-true n 255 (and-l (leb n 255) (bytes lens) e))
 
 -- ---- laid down one by one
 
