@@ -135,8 +135,14 @@ text-append s t e f = rows_append [] s t e f
 
 -- ---- the bytes 20 to 7E
 
+-- such a byte leads nothing
+after-plain : (b : ℕ) → between 0x20 0x7E b ≡ true → after b rows ≡ []
+unfolding rows after
+after-plain b e = ap (λ (c : Bool). if c then [] else after b (drop 1 rows)) e
+
 pub text-plain : (s : List ℕ) → all (between 0x20 0x7E) s ≡ true → text s ≡ true
-unfolding text all rows_from rows after
+unfolding text all rows_from
 text-plain [] e = refl
 text-plain (b ∷ s) e =
-    rw (and_l (between 0x20 0x7E b) (all (between 0x20 0x7E) s) e) (text-plain s (and_r (between 0x20 0x7E b) (all (between 0x20 0x7E) s) e))
+    ap (λ (due : List Range). rows_from due s) (after-plain b (and_l (between 0x20 0x7E b) (all (between 0x20 0x7E) s) e))
+    ∙ text-plain s (and_r (between 0x20 0x7E b) (all (between 0x20 0x7E) s) e)
