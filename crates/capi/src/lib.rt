@@ -1,5 +1,7 @@
 // The calls that a C host links: `include/urpanella.h` documents them. Each takes the answer of the call that does the work apart and does
 // nothing else.
+#![tactic(auto)]
+
 ghost use Rattle.std.specs.Prelude.{◌≡◌, not, eqb};
 ghost use Rattle.format.specs.Numbers.{refusal_given, read_given, edit_given, refusal_of, refusal_number, refusal_place, ReadsC, WritesC, EditsC};
 ghost use Rattle.words.specs.Calls.{decoding, encoding, FillsC};

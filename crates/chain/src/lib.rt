@@ -1,4 +1,6 @@
 // The walker, and the chain of blocks: document 01, "The chain of blocks".
+#![tactic(auto)]
+
 ghost use Rattle.std.specs.Prelude.{◌≡◌, ◌≤◌, ◌&&◌, eqb, get_or};
 ghost use Rattle.format.specs.Chain.{id_of};
 ghost use Rattle.chain.specs.Part.{ThatPart};

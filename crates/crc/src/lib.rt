@@ -1,4 +1,6 @@
 // The CRC of a tag's basic block, bit by bit. The register stands in the upper half of 32 bits: what goes out of it is gone, and nothing has to be cut back.
+#![tactic(auto)]
+
 ghost use Rattle.std.specs.Prelude.{◌≡◌, min};
 ghost use Rattle.crc.specs.Register.{Becomes};
 ghost use Rattle.format.specs.Crc.{crc_bit, crc_byte, crc_from, crc, covered};
@@ -50,7 +52,7 @@ pub fn of_tag(tag: &[u8]) -> u16
     let n = tag.len();
     let from = least(21, n);
     let mut owner: [u8; 13] = [0; 13];
-    bytes::copy(&tag[from..least(34, n)], &mut owner);
+    strings::copy(&tag[from..least(34, n)], &mut owner);
     let front = run(START, &tag[0..least(19, n)]);
     (run(front, &owner) >> 16) as u16
 }

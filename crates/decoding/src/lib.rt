@@ -1,4 +1,6 @@
 // UHF words to text. `Code40` of crate `words` says what a word means, `Calls` what the call comes to.
+#![tactic(auto)]
+
 ghost use Rattle.std.specs.Prelude.{◌≡◌, true, [], ◌∷◌, ◌+◌, ◌≤◌, ◌<◌, length};
 ghost use Rattle.format.specs.Answers.{in_order};
 ghost use Rattle.format.specs.Bytes.{all};

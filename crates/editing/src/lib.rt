@@ -1,4 +1,6 @@
 // Editing one element on a tag.
+#![tactic(auto)]
+
 ghost use Rattle.std.specs.Prelude.{◌≡◌, true, ◌&&◌, [], ◌∷◌, ◌++◌, ◌+◌, ◌≤◌, leb, length, get_or, take, drop, set, replicate};
 ghost use Rattle.format.specs.Answers.{need, in_order};
 ghost use Rattle.format.specs.Elements.{place, known, value};
@@ -132,7 +134,7 @@ fn edit_on(
     };
     // the new bytes, at most 255, stand behind what was made of the tag
     let mut made = [0u8; 274];
-    bytes::copy(&seen, &mut made);
+    strings::copy(&seen, &mut made);
     let was = put(number, bytes, tag.len(), &mut ats, &mut lens, &mut made);
     strings::clear(draft);
     let from = view.blocks.at;
@@ -147,7 +149,7 @@ fn edit_on(
     let Stage::Passed = unlocked else {
         return EditAnswer::Refused(Refusal::Plain(format::stage_number(unlocked)));
     };
-    let length = bytes::copy(rows::piece(tag, &made, was.at, was.len), old);
+    let length = strings::copy(rows::piece(tag, &made, was.at, was.len), old);
     let pages = pages::store(draft, tag);
     EditAnswer::Done { pages, old: length }
 }

@@ -1,4 +1,6 @@
 // Judging the elements of a sheet: document 01, "Elements". The slices are lent, nothing is copied or changed.
+#![tactic(auto)]
+
 ghost use Rattle.std.specs.Prelude.{◌≡◌, ◌&&◌, ◌<◌};
 ghost use Rattle.format.specs.Chain.{carriable};
 ghost use Rattle.format.specs.Elements.{set_info, some_text, media, shape, form, value, known};

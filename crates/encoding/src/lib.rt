@@ -1,4 +1,6 @@
 // Text to UHF words. `Code40` of crate `words` says what a text becomes, `Calls` what the call comes to.
+#![tactic(auto)]
+
 ghost use Rattle.std.specs.Prelude.{◌≡◌, true, ◌≤◌, ◌<◌, length, get_or};
 ghost use Rattle.format.specs.Answers.{need};
 ghost use Rattle.format.specs.Bytes.{all};

@@ -1,5 +1,7 @@
 // Judging fields that are parts of a tag or of a sheet. The slices are lent, nothing is copied or changed.
 // What each answer means is said in `specs/Forms.antt`, over the definitions of `format`.
+#![tactic(auto)]
+
 ghost use Rattle.std.specs.Prelude.{◌≡◌, ◌||◌, map, length, take, drop};
 ghost use Rattle.format.specs.Bytes.{is_empty, all, strip, up_to};
 ghost use Rattle.format.specs.Fields.{capital, unit_byte, isil_of, isil, alternative, is_owner, marked, prefix_in};

@@ -1,4 +1,6 @@
 // The answers of the calls and of their stages. What each case means is said in `specs/Numbers.antt`; the refusals' numbers are the paper's.
+#![tactic(auto)]
+
 ghost use Rattle.std.specs.Prelude.{◌≡◌};
 ghost use Rattle.format.specs.Numbers.{number_of, answer_given, stage_given};
 

@@ -1,5 +1,7 @@
 // The identifier of a UHF tag and the elements 1, 3 and 4 that it holds: `specs/` has what it means, `proofs/` the theorems over it. The
 // calls are those of `parting` and `joining`.
+#![tactic(auto)]
+
 ghost use Rattle.std.specs.Prelude.{◌≡◌};
 ghost use Rattle.format.specs.Numbers.{number_of};
 ghost use Rattle.identifier.specs.Parts.{dotless};

@@ -1,4 +1,6 @@
 // The writer's own layout of a row of elements, on a draft.
+#![tactic(auto)]
+
 mod basic;
 mod blocks;
 mod sizes;

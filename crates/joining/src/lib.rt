@@ -1,4 +1,6 @@
 // The identifier of a UHF tag put together. `Elements` of crate `identifier` says what it is, `Calls` what the call comes to.
+#![tactic(auto)]
+
 ghost use Rattle.std.specs.Prelude.{◌≡◌, [], ◌∷◌, ◌+◌, ◌≤◌, ◌<◌, length};
 ghost use Rattle.format.specs.Answers.{need};
 ghost use Rattle.format.specs.Numbers.{stage_given};

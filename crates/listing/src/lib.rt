@@ -1,4 +1,6 @@
 // What `taglist` prints of a tag, laid down in a lent buffer. The text is defined in `specs/Listing.antt`.
+#![tactic(auto)]
+
 ghost use Rattle.std.specs.Prelude.{◌≡◌, [], ◌∷◌, ◌+◌, ◌*◌, ◌≤◌, ◌<◌, length};
 ghost use Rattle.format.specs.Bytes.{filled};
 ghost use Rattle.format.specs.Pieces.{Stored};
@@ -25,7 +27,7 @@ fn put_word(out: &mut [u8], at: usize, word: &[u8]) -> usize
     ensures { Stored out.old at word.now result out.new }
 {
     let end = at + word.len();
-    bytes::copy(word, &mut out[at..end]);
+    strings::copy(word, &mut out[at..end]);
     end
 }
 

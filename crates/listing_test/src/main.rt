@@ -1,4 +1,6 @@
 // What `listing::list` lays down for some tags, compared byte by byte with what `taglist` is to print of them.
+#![tactic(auto)]
+
 ghost use Rattle.std.specs.Prelude.{◌≡◌, true};
 ghost use Rattle.listing.specs.Listing.{listing};
 

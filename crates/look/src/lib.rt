@@ -1,4 +1,6 @@
 // Looking at a tag: its refusals 1, 3, 4, 15 to 19, 6 and 7, and what it holds.
+#![tactic(auto)]
+
 mod basic;
 mod judge;
 mod owner;

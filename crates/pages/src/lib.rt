@@ -1,4 +1,6 @@
 // The pages of a tag: its size, its lock map, and storing an image on it page by page.
+#![tactic(auto)]
+
 ghost use Rattle.std.specs.Prelude.{◌≡◌, not, ◌&&◌, ◌+◌, ◌*◌, ◌≤◌, ◌<◌, eqb, length};
 ghost use Rattle.format.specs.Answers.{need};
 ghost use Rattle.format.specs.Bytes.{all, same};
@@ -94,7 +96,7 @@ fn store_page(image: &[u8], tag: &mut [u8], i: usize)
 {
     let at = i * PAGE;
     let end = at + PAGE;
-    bytes::copy(&image[at..end], &mut tag[at..end]);
+    strings::copy(&image[at..end], &mut tag[at..end]);
 }
 
 // Is some page locked. As in `same`, the loop goes to the end.

@@ -1,4 +1,6 @@
 // The identifier of a UHF tag taken apart. `Elements` of crate `identifier` says what its parts mean, `Calls` what the call comes to.
+#![tactic(auto)]
+
 mod places;
 mod set;
 

@@ -1,4 +1,6 @@
 // Reading a tag into a sheet.
+#![tactic(auto)]
+
 ghost use Rattle.format.specs.Numbers.{Reads};
 
 use format::{NumberAnswer, ReadAnswer, Refusal};

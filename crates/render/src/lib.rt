@@ -1,4 +1,6 @@
 // The sheet of a tag's elements: document 01, "The sheet".
+#![tactic(auto)]
+
 ghost use Rattle.std.specs.Prelude.{◌≡◌, [], ◌∷◌, ◌++◌, ◌+◌, ◌*◌, ◌≤◌, length, leb, ltb};
 ghost use Rattle.format.specs.Answers.{got, need, in_order};
 ghost use Rattle.format.specs.Bytes.{joined};

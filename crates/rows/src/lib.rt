@@ -1,5 +1,7 @@
 // The table of elements, and a row of them: two arrays tell where each element stands and how long it is, one place for each number of the
 // table. What a row holds is said in `specs/Rows.antt`.
+#![tactic(auto)]
+
 ghost use Rattle.std.specs.Prelude.{◌≡◌, ◌++◌, get_or};
 ghost use Rattle.format.specs.Bytes.{part};
 ghost use Rattle.format.specs.Elements.{numbers, place};

@@ -1,5 +1,7 @@
 // Judging a sheet, and telling where each element stands in it: document 01, "The sheet". The sheet is lent and stays the same.
 // What the answer means is said in `specs/Scanning.antt`, over the definitions of `format`.
+#![tactic(auto)]
+
 ghost use Rattle.std.specs.Prelude.{◌≡◌, ◌+◌, ◌≤◌, length};
 ghost use Rattle.format.specs.Elements.{places};
 ghost use Rattle.format.specs.Sheet.{body_at, count_in, entries_in, right_sheet, good_values};

@@ -1,5 +1,7 @@
 // Small functions on strings of bytes that several crates call.
-ghost use Rattle.std.specs.Prelude.{◌≡◌, ◌+◌, ◌≤◌, length, get_or, replicate};
+#![tactic(auto)]
+
+ghost use Rattle.std.specs.Prelude.{◌≡◌, ◌+◌, ◌≤◌, ◌++◌, length, get_or, take, drop, replicate};
 ghost use Rattle.format.specs.Bytes.{between, word, xor_all};
 ghost use Rattle.format.specs.Pieces.{Stored};
 
@@ -40,13 +42,23 @@ pub fn xor_of(bytes: &[u8]) -> u8
     x
 }
 
+// Copies `source` to the front of `target`, and leaves the rest as it is; answers how many bytes it copied.
+pub fn copy(source: &[u8], target: &mut [u8]) -> usize
+    requires { length source.now ≤ length target.old }
+    ensures { (result ≡ length source.now) × (target.new ≡ take (length source.now) source.now ++ drop (length source.now) target.old) }
+{
+    let count = source.len();
+    target[0..count].copy_from_slice(source);
+    count
+}
+
 // Copies `piece` to `out` from `at` on; answers the place behind it.
 pub fn put_bytes(out: &mut [u8], at: usize, piece: &[u8]) -> usize
     requires { at + length piece.now ≤ length out.old }
     ensures { Stored out.old at piece.now result out.new }
 {
     let end = at + piece.len();
-    bytes::copy(piece, &mut out[at..end]);
+    copy(piece, &mut out[at..end]);
     end
 }
 

@@ -1,6 +1,8 @@
 // Prints what the tag on standard input holds: `elements` and their count, and a line for each; or `refused`, the number and, for
 // damage, the place.
 // A tag has at most 2,048 bytes; one byte more is read, so that longer input is refused as such.
+#![tactic(auto)]
+
 use libc::{STDIN_FILENO, STDOUT_FILENO};
 
 fn main() {

@@ -1,4 +1,6 @@
 // What is text: well-formed UTF-8, letter by letter, without 00 to 1F and 7F. The rows that decide are in `format`, specs/Text.antt.
+#![tactic(auto)]
+
 ghost use Rattle.std.specs.Prelude.{◌<◌, ◌≡◌, true, false, [], ◌∷◌, length, get_or};
 ghost use Rattle.format.specs.Bytes.{all, between};
 ghost use Rattle.format.specs.Text.{inside, tail, text};

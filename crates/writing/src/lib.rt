@@ -1,4 +1,6 @@
 // Writing a sheet onto a tag.
+#![tactic(auto)]
+
 ghost use Rattle.std.specs.Prelude.{◌≡◌, true, ◌&&◌, length};
 ghost use Rattle.format.specs.Pages.{page_size, good_size, lock_map};
 ghost use Rattle.format.specs.Numbers.{Writes};
