@@ -21,6 +21,8 @@ use Rattle.rows.specs.Rows.{slots_at, Stands, Row, none, next}
 pub row-lengths : (src made ats lens : List ℕ) → Row src made ats lens → length lens ≡ length ats
 row-lengths src made [] [] none = refl
 row-lengths src made (at ∷ ats) (len ∷ lens) (next s r) = ap suc (row-lengths src made ats lens r)
+row-lengths src made [] (len ∷ lens) w = elim w [ ]
+row-lengths src made (at ∷ ats) [] w = elim w [ ]
 
 pub slots_length : (s ats lens : List ℕ) → length lens ≡ length ats → length (slots_at s ats lens) ≡ length ats
 unfolding slots_at
@@ -34,6 +36,8 @@ pub row_at : (src made ats lens : List ℕ) → Row src made ats lens → (k : �
 row_at src made [] [] none k h = absurd (not-suc-le-zero h)
 row_at src made (at ∷ ats) (len ∷ lens) (next s r) zero h = s
 row_at src made (at ∷ ats) (len ∷ lens) (next s r) (suc k) h = row_at src made ats lens r k (le_of_suc-le-suc h)
+row_at src made [] (len ∷ lens) w k h = elim w [ ]
+row_at src made (at ∷ ats) [] w k h = elim w [ ]
 
 pub slot_at : (s ats lens : List ℕ) → length lens ≡ length ats → (k : ℕ) → k < length ats → get_or (slots_at s ats lens) k [] ≡ part (get_or ats k 0) (get_or lens k 0) s
 unfolding slots_at
@@ -61,6 +65,8 @@ pub lengths-are : (src made ats lens : List ℕ) → Row src made ats lens → m
 unfolding slots_at
 lengths-are src made [] [] none = refl
 lengths-are src made (at ∷ ats) (len ∷ lens) (next s r) = ap₂ (λ (x : ℕ) (y : List ℕ). x ∷ y) (standing-length src made at len s) (lengths-are src made ats lens r)
+lengths-are src made [] (len ∷ lens) w = elim w [ ]
+lengths-are src made (at ∷ ats) [] w = elim w [ ]
 
 -- ---- an edit is one store into the row
 
@@ -76,6 +82,8 @@ pub row-set : (src made ats lens : List ℕ) → Row src made ats lens → (k at
 row-set src made [] [] none k at len h = none
 row-set src made (a ∷ ats) (l ∷ lens) (next s r) zero at len h = next h r
 row-set src made (a ∷ ats) (l ∷ lens) (next s r) (suc k) at len h = next s (row-set src made ats lens r k at len h)
+row-set src made [] (l ∷ lens) w k at len h = elim w [ ]
+row-set src made (a ∷ ats) [] w k at len h = elim w [ ]
 
 -- ---- and more may be made
 
@@ -85,6 +93,8 @@ stands-more src made more at len s = elim s [ inl e ↦ inl e | inr e ↦ inr (e
 pub row_more : (src made more ats lens : List ℕ) → Row src made ats lens → Row src (made ++ more) ats lens
 row_more src made more [] [] none = none
 row_more src made more (at ∷ ats) (len ∷ lens) (next s r) = next (stands-more src made more at len s) (row_more src made more ats lens r)
+row_more src made more [] (len ∷ lens) w = elim w [ ]
+row_more src made more (at ∷ ats) [] w = elim w [ ]
 
 part-more : (s more : List ℕ) (at len : ℕ) → at + len ≤ length s → part at len (s ++ more) ≡ part at len s
 part-more s more at len h = ap (take len) (drop-append-le at s more (omega (arith, h))) ∙ take-append-le len (drop at s) more (omega (arith, h, length-drop at s))
@@ -96,6 +106,8 @@ slots-more src made more (at ∷ ats) (len ∷ lens) (next s r) =
     let l = length-append src made in
     let m : at + len ≤ length (src ++ made) = elim s [ inl e ↦ omega (arith, l, e) | inr e ↦ omega (arith, l, e.1) ] in
     ap₂ (λ (x : List ℕ) (y : List (List ℕ)). x ∷ y) (ap (part at len) (sym (append_assoc src made more)) ∙ part-more (src ++ made) more at len m) (slots-more src made more ats lens r)
+slots-more src made more [] (len ∷ lens) w = elim w [ ]
+slots-more src made more (at ∷ ats) [] w = elim w [ ]
 
 -- ---- values
 
