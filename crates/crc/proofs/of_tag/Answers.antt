@@ -11,8 +11,7 @@ use Rattle.format.specs.Bytes.{part, pad, pad_with}
 use Rattle.format.specs.Crc.{crc_from, crc, covered}
 use Rattle.format.proofs.Crc.{from-append}
 use Rattle.crc.specs.Register.{upper, Becomes}
-use Rattle.crc.proofs.of_tag.Statement.{statement}
-use Rattle.crc.proofs.of_tag.Tie as tie
+use Rattle.crc.proofs.of_tag.Goals as goal
 
 -- a place behind the end is as good as the end
 take-least : (k : ℕ) (t : List ℕ) → take (min k (length t)) t ≡ take k t
@@ -50,34 +49,10 @@ module _ (t : List ℕ) where
   unfolding crc covered
   covers f o r q ef eo a b = b _ (a 0xFFFF refl) ∙ ap upper (rw (ef, eo) (sym (from-append 0xFFFF (take 19 t) (pad 13 (part 21 13 t)))))
 
-returns : tie.Need-returns
+pub returns : goal.returns
 returns c =
-    let front-run = c.before.before in
-    let copied = front-run.before.before.before.before in
-    let bounds = copied.before.before.before in
-    let t = bounds.before.before.before.args.tag.now in
-    let f = front t _ front-run.before.before.least3.ensures in
-    let o = owner t _ _ bounds.before.least.result bounds.least2.result copied.copy.ensures.1 refl bounds.before.least.ensures bounds.least2.ensures in
-    let r = covers t _ _ _ _ f o front-run.run.ensures c.run2.ensures in
+    let t = c.args.tag.now in
+    let f = front t _ c.least-2.ensures in
+    let o = owner t _ _ c.least-from.result c.least.result c.copy.ensures.1 refl c.least-from.ensures c.least.ensures in
+    let r = covers t _ _ _ _ f o c.run-front.ensures c.run.ensures in
     omega (arith, r)
-
-pub of-tag-spec : {M : Type 1} → statement M
-of-tag-spec =
-    tie.close
-    (tie.spec
-    (λ c κs. search rules)
-    (λ c κs. search rules)
-    (λ c. search rules)
-    (λ c. search rules)
-    (λ c. search rules)
-    (λ c. search rules)
-    (λ c κs. search rules)
-    (λ c κs. search rules)
-    (λ c. search rules)
-    (λ c. search rules)
-    (λ c. search rules)
-    (λ c κs. search rules)
-    (λ c. search rules)
-    (λ c κs. search rules)
-    (λ c. search rules)
-    returns)

@@ -7,8 +7,7 @@ use Rattle.format.specs.Crc.{polynomial, crc_bit}
 use Rattle.format.proofs.Crc.{bit_is}
 use Rattle.format.proofs.Xor.{xor-up}
 use Rattle.crc.specs.Register.{upper, Becomes}
-use Rattle.crc.proofs.bit.Statement.{statement}
-use Rattle.crc.proofs.bit.Tie as tie
+use Rattle.crc.proofs.bit.Goals as goal
 
 shifted : (r : ℕ) → r < 4294967296 → Becomes r crc_bit (bit_xor (r * 2 % 4294967296) (r / 2147483648 * upper polynomial))
 shifted r h x e =
@@ -18,11 +17,8 @@ shifted r h x e =
     ∙ sym (xor-up 16 (x * 2 % 65536) (x / 32768 * polynomial))
     ∙ ap upper (xor_comm (x * 2 % 65536) (x / 32768 * polynomial) ∙ sym (bit_is x (omega arith)))
 
-mul-result : tie.Need-overflow-mul-result
-mul-result c = omega arith
+pub overflow_mul-result : goal.overflow_mul-result
+overflow_mul-result c = omega arith
 
-returns : tie.Need-returns
+pub returns : goal.returns
 returns c = shifted _ c.ranges.register.fits
-
-pub bit-spec : {M : Type 1} → statement M
-bit-spec = tie.close (tie.spec mul-result returns)

@@ -1,0 +1,15 @@
+-- `pages::same` meets its contract. The loop's invariant: what is left of the two decides, with the bytes before it, whether they are the same.
+use mathlib.Core.Path.{◌≡◌, refl, sym}
+use Prim.Native.Nat.{◌-◌, ◌≤◌}
+use mathlib.Core.Bool.{◌&&◌}
+use lib.ListN.{length, drop}
+use borrow.Author.Rules.{rules}
+use Rattle.format.specs.Bytes.{same}
+use Rattle.pages.proofs.Comparing.{same-other-length, same-turned, same_ended}
+use Rattle.pages.proofs.same.Given as goal
+
+abbrev pub invariant-loop-i : goal.invariant-loop-i
+invariant-loop-i l = (l.i ≤ length l.a) × (l.equal && same (drop l.i l.a) (drop l.i l.b) ≡ same l.a l.b)
+
+abbrev pub decreases-loop-i : goal.decreases-loop-i
+decreases-loop-i l = length l.a - l.i

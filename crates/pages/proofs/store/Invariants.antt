@@ -1,0 +1,16 @@
+-- `pages::store` meets its contract. The loop's invariant: the image's pages that it has passed stand on the tag, and those that differed are counted.
+use mathlib.Core.Path.{◌≡◌, sym, ◌∙◌}
+use mathlib.Core.Logic.{⊎_elim}
+use Prim.Native.Nat.{◌-◌, ◌≤◌}
+use native.Mathlib.Omega.{arith}
+use borrow.Author.Rules.{rules}
+use Rattle.format.specs.Pages.{page_size, differs}
+use Rattle.pages.proofs.Counting.{count-at-most}
+use Rattle.pages.proofs.Storing.{FirstPages, no-pages, one-stored, one-there, all-stored}
+use Rattle.pages.proofs.store.Given as goal
+
+abbrev pub invariant-loop-i : goal.invariant-loop-i
+invariant-loop-i l = (l.i ≤ l.pages) × FirstPages page_size l.image l.initial.tag l.tag l.n l.i
+
+abbrev pub decreases-loop-i : goal.decreases-loop-i
+decreases-loop-i l = l.pages - l.i
