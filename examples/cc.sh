@@ -1,37 +1,26 @@
 # How C is compiled, linked and run here. Read by examples/build, bench/run and
 # scripts of tests/, which set me (the name for messages), root (the repository)
-# and kit (yes or no). Static libraries are x86-64 on every machine, so programs
-# are too:
-#   on x86-64   cc, unless kit is yes;
-#   on Arm      the kit's clang, ld.lld and emulator, with the headers of
-#               examples/libc. kit=yes tries the same, without the emulator, on
-#               x86-64.
+# and kit (yes or no). The library is x86-64, and so are programs: by cc, or where
+# kit is yes by the kit's clang and ld.lld, with the headers of examples/libc.
 
 . "$root/bin/kit.sh"
 
 c_setup() {
     machine=$(uname -m)
-    case $machine in
-    x86_64) ;;
-    aarch64) kit=yes ;;
-    *) stop "no way to build x86-64 programs on $machine is known" ;;
-    esac
+    [ "$machine" = x86_64 ] || stop "no way to build x86-64 programs on $machine is known"
     if [ "$kit" = no ]; then
         CC=${CC:-cc}
         command -v "$CC" >/dev/null || stop "no C compiler: $CC"
         return
     fi
     command -v rt >/dev/null || stop "rt is not on the path, so the kit's clang is not found"
-    KIT=$(dirname "$(dirname "$(rt doc)")")
-    tools=$KIT/on/$machine/toolchain/bin
+    KIT=$(dirname "$(rt doc)")
+    tools=$KIT/toolchain/bin
     T=$KIT/toolchain/lib
     CC=$tools/clang
     for need in "$CC" "$tools/ld.lld" "$T/Scrt1.o" "$T/libc.so.6"; do
         [ -e "$need" ] || stop "cannot be built here: the kit has no $need"
     done
-    if [ "$machine" = aarch64 ] && [ ! -e "$tools/qemu-x86_64" ]; then
-        stop "cannot be run here: the kit has no $tools/qemu-x86_64"
-    fi
 }
 
 # c_compile OBJECT SOURCE FLAGS..
@@ -63,6 +52,5 @@ c_link() {
 # The words to put before a program to run it.
 c_runner() {
     [ "$kit" = no ] && return
-    [ "$machine" = aarch64 ] && echo "$tools/qemu-x86_64"
     echo "$T/ld-linux-x86-64.so.2 --library-path $T"
 }
