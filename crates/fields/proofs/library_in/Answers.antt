@@ -1,11 +1,9 @@
 -- Block 1 is judged by its parts, once they are in hand.
 use mathlib.Core.Path.{◌≡◌, sym, ◌∙◌}
 use Prim.Native.Nat.{ℕ, ◌+◌}
-use mathlib.Core.Logic.{⊎_elim}
 use mathlib.Core.Bool.{Bool, true, ◌&&◌, ◌||◌}
 use mathlib.Core.List.{List, map}
-use borrow.Author.Rules.{rules}
-use borrow.Author.Tests.{le-leb, lt-leb, not-true, not-false}
+use borrow.Author.Tests.{le-leb, lt-leb}
 use lib.Dec.{leb}
 use lib.ListN.{length, take, drop, get_or}
 use Rattle.format.specs.Bytes.{if◌then◌else◌, is_empty, strip, past}
@@ -16,8 +14,8 @@ use Rattle.fields.specs.declared.LibraryField.{LibraryField}
 use Rattle.fields.specs.declared.LibraryField.TheVariants.{Good, Refused}
 use Rattle.fields.specs.Forms.{library_parts, library_form}
 use Rattle.fields.proofs.Places.{up-to-take, past-drop}
-use Rattle.fields.proofs.library_in.Statement.{statement}
-use Rattle.fields.proofs.library_in.Tie as tie
+use Rattle.fields.proofs.library_in.Goals.{After-front-owner, then-last-gt1-via-then-last-gt1, then-last-gt1-via-else-last-gt1+then-not-is_text, then-last-gt1-via-else-last-gt1+else-not-is_text+then-not-owner_stands}
+use Rattle.fields.proofs.library_in.Goals as goal
 
 -- the form by the payload, item, owner and last field
 abbrev form_by : List ℕ → List ℕ → List ℕ → List ℕ → LibraryField
@@ -39,49 +37,35 @@ stands : {a b c : Bool} {m n m' n' i o : ℕ} → a ≡ true → b ≡ true → 
     ≡ Good (record { media = m; item = i; owner = o; usage = n })
 stands a b c m n = rw (a, b, c, m, n)
 
-in-hand : (c : tie.After-front2)
-    → let i = c.before.before in
-    let l = i.before.before in
-    let p = l.before.before.before in
-    library_form p.before.before.before.args.block.now
-    ≡ form_by p.held.result.now i.front.result.now c.front2.result.now l.find-fields.result.now
+in-hand : (c : After-front-owner)
+    → library_form c.args.block.now
+    ≡ form_by c.held-payload.result.now c.front-item.result.now c.front-owner.result.now c.find_fields-last.result.now
 in-hand c =
-    let i = c.before.before in
-    let l = i.before.before in
-    let f = l.before.before in
-    let p = f.before in
-    by_parts p.before.before.before.args.block.now p.before.from.ensures p.held.ensures f.from2.ensures
-    l.find-fields.ensures i.front.ensures c.before.from3.ensures c.front2.ensures
+    by_parts c.args.block.now c.from.ensures c.held-payload.ensures c.from-fields.ensures
+    c.find_fields-last.ensures c.front-item.ensures c.from-2.ensures c.front-owner.ensures
 
-returns : tie.Need-returns
+pub returns-then-last-gt1 : goal.returns-then-last-gt1
+returns-then-last-gt1 c =
+    let p = in-hand (goal.at.returns-then-last-gt1 c).After-front-owner in
+    elim c.then-last-gt1.branch [
+      | then-last-gt1-via-then-last-gt1 w ↦ sym (p ∙ simp (lt-leb _ _ w.if-last-gt1.true))
+      | then-last-gt1-via-else-last-gt1+then-not-is_text w ↦
+          sym (p ∙ simp (le-leb _ _ w.if-last-gt1.false, sym w.is_text.ensures ∙ w.if-not-is_text.true))
+      | then-last-gt1-via-else-last-gt1+else-not-is_text+then-not-owner_stands w ↦
+          sym (p ∙ simp (
+            le-leb _ _ w.if-last-gt1.false,
+            sym w.is_text.ensures ∙ w.if-not-is_text.false,
+            sym w.owner_stands.ensures ∙ w.if-not-owner_stands.true,
+          ))
+    ]
+
+pub returns : goal.returns
 returns c =
-    sym (in-hand c.before
-    ∙ ⊎_elim (λ w. simp (lt-leb _ _ w.taken))
-    (⊎_elim (λ w. simp (le-leb _ _ w.0.left, sym w.1.ensures, not-true w.1.result w.2.taken))
-    (λ w. simp (
-      le-leb _ _ w.0.left,
-      sym w.1.ensures,
-      not-false w.1.result w.2.left,
-      sym w.3.ensures,
-      not-true w.3.result w.4.taken,
-    )))
-    c.if1.branch)
-
-returns-2 : tie.Need-returns-2
-returns-2 c =
-    let o = c.before.before.before in
-    let t = o.before.before in
-    sym (in-hand t.before.before
+    let t = (goal.at.returns c).After-front-owner in
+    sym (in-hand t
     ∙ stands
-    (le-leb _ 1 t.before.if1.false)
-    (sym t.is-text.ensures ∙ not-false t.is-text.result o.before.if2.false)
-    (sym o.owner-stands.ensures ∙ not-false o.owner-stands.result c.before.before.if3.false)
-    c.before.byte_at.ensures
-    c.byte-at2.ensures)
-
-pub library-in-spec : {M : Type 1} → statement M
-library-in-spec =
-    tie.close
-    (tie.spec (λ c κs. search rules) (λ c κs. search rules) (λ c κs. search rules) (λ c. search rules) (λ c κs. search rules)
-    (λ c. search rules) (λ c κs. search rules) (λ c. search rules) (λ c κs. search rules) (λ c. search rules) (λ c κs. search rules)
-    (λ c κs. search rules) (λ c κs. search rules) returns (λ c κs. search rules) (λ c κs. search rules) returns-2)
+    (le-leb _ 1 c.if-last-gt1.false)
+    (sym c.is_text.ensures ∙ c.if-not-is_text.false)
+    (sym c.owner_stands.ensures ∙ c.if-not-owner_stands.false)
+    c.byte_at.ensures
+    c.byte_at-2.ensures)

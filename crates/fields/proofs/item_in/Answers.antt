@@ -4,14 +4,12 @@ use Prim.Native.Nat.{ℕ}
 use mathlib.Core.Bool.{true, false, or-true}
 use mathlib.Core.List.{List}
 use lib.ListN.{length}
-use borrow.Author.Rules.{rules}
 use Rattle.format.specs.Bytes.{strip}
 use Rattle.format.specs.Text.{text}
 use Rattle.format.specs.Fields.{marked, good_item}
 use Rattle.fields.specs.declared.ItemField.TheVariants.{Good, Refused}
 use Rattle.fields.specs.Forms.{item_parts, item_form}
-use Rattle.fields.proofs.item_in.Statement.{statement}
-use Rattle.fields.proofs.item_in.Tie as tie
+use Rattle.fields.proofs.item_in.Goals as goal
 
 -- the form by what the field holds
 module _ (f t : List ℕ) (e : t ≡ strip f) where
@@ -27,18 +25,13 @@ module _ (f t : List ℕ) (e : t ≡ strip f) where
   unfolding item_form item_parts good_item
   by-none m x = rw (← e, m, x)
 
-returns : tie.Need-returns
-returns c = by-marker _ _ c.before.before.held.ensures (sym c.before.is-marker.ensures ∙ c.if1.true)
+pub returns-then-is_marker : goal.returns-then-is_marker
+returns-then-is_marker c = by-marker _ _ c.held-item.ensures (sym c.is_marker.ensures ∙ c.if-is_marker.true)
 
-returns-2 : tie.Need-returns-2
-returns-2 c =
-    let m = c.before.before in
-    by-text _ _ m.before.before.held.ensures (sym m.before.is-marker.ensures ∙ m.if1.false) (sym c.before.is-text.ensures ∙ c.if2.true)
+pub returns-then-is_text : goal.returns-then-is_text
+returns-then-is_text c =
+    by-text _ _ c.held-item.ensures (sym c.is_marker.ensures ∙ c.if-is_marker.false) (sym c.is_text.ensures ∙ c.if-is_text.true)
 
-returns-3 : tie.Need-returns-3
-returns-3 c =
-    let m = c.before.before in
-    by-none _ _ m.before.before.held.ensures (sym m.before.is-marker.ensures ∙ m.if1.false) (sym c.before.is-text.ensures ∙ c.if2.false)
-
-pub item-in-spec : {M : Type 1} → statement M
-item-in-spec = tie.close (tie.spec (λ c κs. search rules) (λ c κs. search rules) returns (λ c κs. search rules) returns-2 returns-3)
+pub returns : goal.returns
+returns c =
+    by-none _ _ c.held-item.ensures (sym c.is_marker.ensures ∙ c.if-is_marker.false) (sym c.is_text.ensures ∙ c.if-is_text.false)

@@ -4,14 +4,12 @@ use Prim.Native.Nat.{ℕ}
 use native.Mathlib.Omega.{arith}
 use mathlib.Core.Bool.{false, and-true}
 use mathlib.Core.List.{List, [], ◌∷◌}
-use borrow.Author.Rules.{rules}
 use lib.Dec.{eqb}
 use lib.ListN.{length, get_or}
 use Rattle.format.specs.Bytes.{same}
 use Rattle.format.specs.Fields.{marked}
 use Rattle.format.proofs.Tests.{and_no}
-use Rattle.fields.proofs.is_marker.Statement.{statement}
-use Rattle.fields.proofs.is_marker.Tie as tie
+use Rattle.fields.proofs.is_marker.Goals as goal
 
 not-one : (s : List ℕ) → (length s ≡ 1 → ⊥) → marked s ≡ false
 unfolding same
@@ -25,11 +23,8 @@ one [] h = absurd (omega arith)
 one (x ∷ []) h = and-true (eqb x 1)
 one (x ∷ y ∷ s) h = absurd (omega arith)
 
-returns : tie.Need-returns
-returns c = sym (not-one c.before.args.s.now c.if1.true)
+pub returns-then-s-ne1 : goal.returns-then-s-ne1
+returns-then-s-ne1 c = sym (not-one c.args.s.now c.if-s-ne1.true)
 
-returns-2 : tie.Need-returns-2
-returns-2 c = sym (one c.before.before.args.s.now c.before.if1.false)
-
-pub is-marker-spec : {M : Type 1} → statement M
-is-marker-spec = tie.close (tie.spec returns (λ c. search rules) returns-2)
+pub returns : goal.returns
+returns c = sym (one c.args.s.now c.if-s-ne1.false)

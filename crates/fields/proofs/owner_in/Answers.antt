@@ -1,10 +1,8 @@
 -- Where the field is neither empty nor marked, its third byte decides.
 use mathlib.Core.Path.{◌≡◌, sym, ◌∙◌}
-use mathlib.Core.Logic.{⊎_elim}
 use Prim.Native.Nat.{ℕ, ◌≤◌, ◌<◌}
 use mathlib.Core.Bool.{Bool, true, false, not, or-true}
 use mathlib.Core.List.{List}
-use borrow.Author.Rules.{rules}
 use borrow.Author.Tests.{le-leb, lt-leb, ne_eqb}
 use lib.Dec.{eqb}
 use lib.ListN.{length, drop, get_or}
@@ -16,8 +14,8 @@ use Rattle.format.proofs.Fields.{marker-third}
 use Rattle.fields.specs.declared.OwnerField.{OwnerField}
 use Rattle.fields.specs.declared.OwnerField.TheVariants.{Good, Refused}
 use Rattle.fields.specs.Forms.{owner_parts, owner_form}
-use Rattle.fields.proofs.owner_in.Statement.{statement}
-use Rattle.fields.proofs.owner_in.Tie as tie
+use Rattle.fields.proofs.owner_in.Goals.{After-byte_at, then-owner-eq0-via-then-owner-eq0, then-owner-eq0-via-else-owner-eq0+then-is_marker}
+use Rattle.fields.proofs.owner_in.Goals as goal
 
 abbrev good : Bool → ℕ → ℕ → ℕ → OwnerField
 good m p i o = Good (record { marked = m; prefix = p; isil = i; alternative = o })
@@ -49,50 +47,39 @@ module _ {f t s : List ℕ} {n : ℕ} (p : Third f t s n) where
   unfolding owner_form owner_parts good_owner
   by-isil l e i h = rw (← p.holds, ← p.rest, not-empty t p.some, p.unmarked, ← p.byte, lt-leb n 3 l, ← e, h)
 
-returns : tie.Need-returns
-returns c =
-    let s = c.before.before in
-    c.good-owner.ensures
-    ∙ ⊎_elim (λ w. by-none _ _ _ s.before.held.ensures s.from.ensures w.taken)
-    (λ w. by-marker _ _ _ s.before.held.ensures s.from.ensures w.0.left (sym w.1.ensures ∙ w.2.taken)) c.before.if1.branch
+pub returns-then-owner-eq0 : goal.returns-then-owner-eq0
+returns-then-owner-eq0 c =
+    c.good_owner.ensures
+    ∙ elim c.then-owner-eq0.branch [
+      | then-owner-eq0-via-then-owner-eq0 w ↦ by-none _ _ _ c.held-owner.ensures c.from-said.ensures w.if-owner-eq0.true
+      | then-owner-eq0-via-else-owner-eq0+then-is_marker w ↦
+          by-marker _ _ _ c.held-owner.ensures c.from-said.ensures w.if-owner-eq0.false (sym w.is_marker.ensures ∙ w.if-is_marker.true)
+    ]
 
-third : (c : tie.After-byte-at)
-    → let s = c.before.before.before.before in
-    Third s.before.before.before.args.field.now s.before.held.result.now s.from.result.now c.byte_at.result
+third : (c : After-byte_at) → Third c.args.field.now c.held-owner.result.now c.from-said.result.now c.byte_at.result
 third c =
-    let s = c.before.before.before.before in
     record {
-      holds = s.before.held.ensures;
-      rest = s.from.ensures;
-      some = c.before.before.before.if1.false;
-      unmarked = sym c.before.before.is-marker.ensures ∙ c.before.if2.false;
+      holds = c.held-owner.ensures;
+      rest = c.from-said.ensures;
+      some = c.if-owner-eq0.false;
+      unmarked = sym c.is_marker.ensures ∙ c.if-is_marker.false;
       byte = c.byte_at.ensures;
     }
 
-returns-2 : tie.Need-returns-2
-returns-2 c =
-    let a = c.before.before in
-    c.good-owner2.ensures ∙ by-other (third a.before.before) a.before.if3.true true (sym a.alternative.ensures ∙ c.before.if4.true)
+pub returns-then-alternative : goal.returns-then-alternative
+returns-then-alternative c =
+    c.good_owner-then-alternative.ensures
+    ∙ by-other (third (goal.at.returns-then-alternative c).After-byte_at) c.if-byte_at-le3.true true (sym c.alternative.ensures ∙ c.if-alternative.true)
 
-returns-3 : tie.Need-returns-3
-returns-3 c =
-    let a = c.before in
-    by-other (third a.before.before) a.before.if3.true false (sym a.alternative.ensures ∙ c.if4.false)
+pub returns-then-byte_at-le3 : goal.returns-then-byte_at-le3
+returns-then-byte_at-le3 c =
+    by-other (third (goal.at.returns-then-byte_at-le3 c).After-byte_at) c.if-byte_at-le3.true false (sym c.alternative.ensures ∙ c.if-alternative.false)
 
-returns-4 : tie.Need-returns-4
-returns-4 c =
-    let i = c.before.before in
-    let p = i.before in
-    c.good-owner3.ensures ∙ by-isil (third p.before.before) p.before.if3.false p.prefix-in.ensures true (sym i.isil-of.ensures ∙ c.before.if5.true)
+pub returns-then-isil_of : goal.returns-then-isil_of
+returns-then-isil_of c =
+    c.good_owner-then-isil_of.ensures
+    ∙ by-isil (third (goal.at.returns-then-isil_of c).After-byte_at) c.if-byte_at-le3.false c.prefix_in-prefix.ensures true (sym c.isil_of.ensures ∙ c.if-isil_of.true)
 
-returns-5 : tie.Need-returns-5
-returns-5 c =
-    let i = c.before in
-    let p = i.before in
-    by-isil (third p.before.before) p.before.if3.false p.prefix-in.ensures false (sym i.isil-of.ensures ∙ c.if5.false)
-
-pub owner-in-spec : {M : Type 1} → statement M
-owner-in-spec =
-    tie.close
-    (tie.spec (λ c κs. search rules) (λ c κs. search rules) (λ c κs. search rules) (λ c κs. search rules) returns (λ c κs. search rules) (λ c κs. search rules)
-    (λ c κs. search rules) returns-2 returns-3 (λ c κs. search rules) (λ c κs. search rules) (λ c κs. search rules) returns-4 returns-5)
+pub returns : goal.returns
+returns c =
+    by-isil (third (goal.at.returns c).After-byte_at) c.if-byte_at-le3.false c.prefix_in-prefix.ensures false (sym c.isil_of.ensures ∙ c.if-isil_of.false)
