@@ -4,7 +4,7 @@
 For each `pub fn` of crates/: it has an `ensures`; it has no `requires`, unless docs/EXCEPTIONS.txt lists it; and a theorem says that two
 outcomes that fit its contract are equal, answer and buffers, unless docs/EXCEPTIONS.txt lists it as answering more than one. The theorem of
 `crate::some_function` is `some-function-one` in crates/CRATE/proofs/One.antt. It has the contract itself, word for word, as its two premises:
-the contents of a lent slice `x` at entry are written x, those of a `&mut` x at exit x′ in the first outcome and x₂ in the second, and the
+the contents of a lent slice `x` at entry are written x, those of a `&mut` x at exit x' in the first outcome and x₂ in the second, and the
 answers r and r₂. It concludes that the answers are equal, and so is each `&mut` at exit; of a lent answer, that its contents are and, where the
 contract tells its place, its place. What the contract's names mean is what they mean there: both files bring each of them in from the same
 module. A `pub fn` of a module that is not `pub` is not public.
@@ -19,10 +19,11 @@ import sys
 ROOT = pathlib.Path(__file__).resolve().parent.parent
 PUBLIC = re.compile(r'\bpub\s+(?:extern\s+"C"\s+)?fn\s+(\w+)')
 CALLED_FROM_OUTSIDE = {'reading', 'writing', 'editing', 'decoding', 'encoding', 'parting', 'joining', 'capi', 'listing'}
-CLAUSE = re.compile(r'\s*(requires|ensures)\b[^{]*')
+CLAUSE = re.compile(r'\s*(requires|ensures)\b\*?[^{]*')
 RESULT = re.compile(r'\s*->\s*([^{}]*?)(?=\s*(?:requires\b|ensures\b|\{))')
 USED = re.compile(r'(?m)^(?:ghost )?use ([^;{\n]+)\.\{([^}]*)\}')
-ENSURED = re.compile(r'\s*λ\s*(\w+)\.\s*⌜(.*)⌝\s*', re.S)
+LIBRARY = 'Rattle.std.specs.'
+NAME = r"[^\s(){}.;,]"
 KINDS = ('requires', 'answers')
 
 
@@ -77,28 +78,31 @@ class Function:
 
     def premise(self, second):
         """The contract as a theorem has it: of the first outcome, or of the second."""
-        answer, body = ENSURED.fullmatch(self.ensured()[0]).groups()
-        by_place = re.search(r'(?<!now )\(\w+ \.entry\)', body)
-        body = re.sub(r'\((\w+) \.entry\)', r'\1', body) if by_place else re.sub(r'now \((\w+) \.entry\)', r'\1', body)
-        body = re.sub(r'now \((\w+) \.exit\)', r'\1₂' if second else r'\1′', body)
-        body = re.sub(rf'(?<![\w.·-]){answer}(?![\w′₂-])', 'r₂' if second else 'r', body)
-        return words(re.sub(r'\((\w+[′₂]?)\)', r'\1', body))
+        body = re.sub(rf'(?<!{NAME})result(?!{NAME})', 'r₂' if second else 'r', self.ensured()[0])
+        body = re.sub(rf'(?<!{NAME})(\w+)\.new(?!{NAME})', r'\1₂' if second else r"\1'", body)
+        # A contract that tells a place speaks of the references themselves, any other of what they point to.
+        if re.search(r'\w\.entry\b', body):
+            body = re.sub(r'(\w+)\.entry\b', r'\1', body)
+        else:
+            body = re.sub(rf'(?<!{NAME})(?!r\.|r₂\.)(\w+)\.(?:now|old)(?!{NAME})', r'\1', body)
+        return words(body)
 
     def meanings(self):
         """The names of the contract that are brought in, and from where."""
         found = set(re.findall(r"[^\s(){}]+", ' '.join(self.ensured())))
-        return {name: module for name, module in self.used.items() if name.strip('_') in found}
+        return {name: module for name, module in self.used.items() if name.strip('◌') in found}
 
     def conclusion(self):
         parts = ['r ≡ r₂'] if self.result else []
         if self.result.startswith('&'):
-            placed = re.search(r'(?<!now )(?<![\w.·-])r(?![\w′₂-])', self.premise(False))
-            parts = ['now r ≡ now r₂', 'ptr r ≡ ptr r₂'] if placed else ['now r ≡ now r₂']
-        parts += [f'{name}′ ≡ {name}₂' for name in self.lent]
+            placed = re.search(rf'(?<!{NAME})r(?![\w₂.])', self.premise(False))
+            parts = ['r.now ≡ r₂.now', 'r.ref_ptr ≡ r₂.ref_ptr'] if placed else ['r.now ≡ r₂.now']
+        parts += [f"{name}' ≡ {name}₂" for name in self.lent]
         return parts[0] if len(parts) == 1 else ' × '.join(f'({part})' for part in parts)
 
     def theorem(self):
-        return self.name.replace('_', '-') + '-one'
+        """Its name joins the function's words by dashes, or is in snake case where the library has such a name."""
+        return {self.name.replace('_', '-') + '-one', self.name + '_one'}
 
 
 def code(path):
@@ -128,9 +132,10 @@ def theorems(crate):
 
 def states_one(function, statement, meanings):
     """Does the statement say of this function's contract that one outcome fits it?"""
-    if len(function.ensured()) != 1 or not ENSURED.fullmatch(function.ensured()[0]):
+    if len(function.ensured()) != 1:
         return False
-    if any(meanings.get(name) != module for name, module in function.meanings().items()):
+    # The kit lets no name of its own words stand for anything else, so those may come from any module of the kit.
+    if any(meanings.get(name) != module for name, module in function.meanings().items() if not module.startswith(LIBRARY)):
         return False
     first, second = function.premise(False), function.premise(True)
     if ' × ' in first:
@@ -160,7 +165,7 @@ def main():
     used, wrong, seen, proved, named = set(), [], 0, 0, {}
     for function in functions():
         seen += 1
-        named.setdefault(function.crate, set()).add(function.theorem())
+        named.setdefault(function.crate, set()).update(function.theorem())
         if not function.ensured():
             wrong.append(f'{function.full}: states no result')
             continue
@@ -169,11 +174,13 @@ def main():
                 used.add((function.full, 'requires'))
             else:
                 wrong.append(f'{function.full}: has a requires')
-        theorem = theorems(function.crate).get(function.theorem())
+        known = theorems(function.crate)
+        name = next((name for name in sorted(function.theorem()) if name in known), None)
+        theorem = known.get(name)
         if theorem and states_one(function, *theorem):
             proved += 1
         elif theorem:
-            wrong.append(f'{function.full}: {function.theorem()} does not say of its contract that one outcome fits')
+            wrong.append(f'{function.full}: {name} does not say of its contract that one outcome fits')
         elif (function.full, 'answers') in listed and function.crate not in CALLED_FROM_OUTSIDE:
             used.add((function.full, 'answers'))
         else:

@@ -2,8 +2,8 @@
 use mathlib.Core.Path.{◌≡◌, sym, ◌∙◌}
 use Prim.Native.Nat.{ℕ, ◌≤◌}
 use mathlib.Core.Bool.{Bool}
-use mathlib.Core.List.{List}
-use lib.ListN.{length, get_or, replicate}
+use mathlib.Core.List.{List, ◌++◌}
+use lib.ListN.{length, get_or, take, drop, replicate}
 use Rattle.format.specs.Bytes.{between, word, xor_all}
 use Rattle.format.specs.Pieces.{Stored}
 
@@ -18,6 +18,12 @@ byte-at-one s at r r₂ a b = a ∙ sym b
 
 pub xor-of-one : (bytes : List ℕ) (r r₂ : ℕ) → r ≡ xor_all bytes → r₂ ≡ xor_all bytes → r ≡ r₂
 xor-of-one bytes r r₂ a b = a ∙ sym b
+
+pub copy-one : (source target : List ℕ) (r r₂ : ℕ) (target' target₂ : List ℕ)
+    → ((r ≡ length source) × (target' ≡ take (length source) source ++ drop (length source) target))
+    → ((r₂ ≡ length source) × (target₂ ≡ take (length source) source ++ drop (length source) target))
+    → (r ≡ r₂) × (target' ≡ target₂)
+copy-one source target r r₂ target' target₂ a b = (a.0 ∙ sym b.0, a.1 ∙ sym b.1)
 
 pub put-bytes-one : (out : List ℕ) (at : ℕ) (piece : List ℕ) (r r₂ : ℕ) (out' out₂ : List ℕ) → Stored out at piece r out' → Stored out at piece r₂ out₂ → (r ≡ r₂) × (out' ≡ out₂)
 put-bytes-one out at piece r r₂ out' out₂ a b = (a.0 ∙ sym b.0, a.1 ∙ sym b.1)
