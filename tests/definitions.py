@@ -21,17 +21,17 @@ NUMBER = re.compile(r'(?<![\w.·{])(?<!Type )(?:0x[0-9A-Fa-f]+|\d+)(?![\w}])')
 
 # Changes that leave every call as it is: file, the line as it is then, grounds.
 SAME = [
-    ('format/Chain.antt', 'idOf b = word (getD b 1 1) (getD b 2 0)', 'a block of fewer than 3 bytes is damage whatever its ID'),
-    ('format/Chain.antt', 'idOf b = word (getD b 1 0) (getD b 2 1)', 'a block of fewer than 3 bytes is damage whatever its ID'),
-    ('format/Elements.antt', 'placeIn [] n = 1', 'a place behind the list is no place, however far behind'),
-    ('format/Fields.antt', 'unitByte b = capital b || between 0x61 0x7A b || between 0x30 0x3A b || eqb b 0x2F || eqb b 0x2D || eqb b 0x3A', '3A is named besides'),
-    ('format/Numbers.antt', 'refusalOf (got a) = plain 1', 'asked only of a call that was refused; the functions that tell it have 0 in their contracts, in crates above'),
-    ('format/Pages.antt', 'locked locks i = eqb (getD locks i 1) 1', 'a lock map reaches every page, or the call is refused 1'),
-    ('format/Sheet.antt', 'record { number = getD h 0 1; bytes = take n b } ∷ cut k (drop 4 h) (drop n b)', 'a head that the sheet lacks makes another sheet, so 8'),
-    ('format/Sheet.antt', 'countIn s = word (getD s 0 1) (getD s 1 0)', 'no entries make a sheet of fewer than 2 bytes, so it is 8'),
-    ('format/Sheet.antt', 'countIn s = word (getD s 0 0) (getD s 1 1)', 'no entries make a sheet of fewer than 2 bytes, so it is 8'),
-    ('identifier/Demands.antt', 'pub not-taken : (leads : Bool) (s : List ℕ) (t o : ℕ) (buffers : Elements) → Tells leads s t o → 256 < t → part leads s buffers .answer ≡ refused (plain 6)', 'asks less; a total of 256 is refused by PartsIdentifiers too'),
-    ('identifier/Demands.antt', 'pub not-put : (e : Elements) (buffer : List ℕ) → 256 < partsOf (e .set) → join e buffer .answer ≡ refused (plain 9)', 'asks less; 256 parts are refused by JoinsElements too'),
+    ('format/Chain.antt', 'id_of b = word (get_or b 1 1) (get_or b 2 0)', 'a block of fewer than 3 bytes is damage whatever its ID'),
+    ('format/Chain.antt', 'id_of b = word (get_or b 1 0) (get_or b 2 1)', 'a block of fewer than 3 bytes is damage whatever its ID'),
+    ('format/Elements.antt', 'place_in [] n = 1', 'a place behind the list is no place, however far behind'),
+    ('format/Fields.antt', 'unit_byte b = capital b || between 0x61 0x7A b || between 0x30 0x3A b || eqb b 0x2F || eqb b 0x2D || eqb b 0x3A', '3A is named besides'),
+    ('format/Numbers.antt', 'refusal_of (got a) = plain 1', 'asked only of a call that was refused; the functions that tell it have 0 in their contracts, in crates above'),
+    ('format/Pages.antt', 'locked locks i = eqb (get_or locks i 1) 1', 'a lock map reaches every page, or the call is refused 1'),
+    ('format/Sheet.antt', 'record { number = get_or h 0 1; bytes = take n b } ∷ cut k (drop 4 h) (drop n b)', 'a head that the sheet lacks makes another sheet, so 8'),
+    ('format/Sheet.antt', 'count_in s = word (get_or s 0 1) (get_or s 1 0)', 'no entries make a sheet of fewer than 2 bytes, so it is 8'),
+    ('format/Sheet.antt', 'count_in s = word (get_or s 0 0) (get_or s 1 1)', 'no entries make a sheet of fewer than 2 bytes, so it is 8'),
+    ('identifier/Demands.antt', 'pub not_taken : (leads : Bool) (s : List ℕ) (t o : ℕ) (buffers : Elements) → Tells leads s t o → 256 < t → (part leads s buffers).answer ≡ refused (plain 6)', 'asks less; a total of 256 is refused by PartsIdentifiers too'),
+    ('identifier/Demands.antt', 'pub not-put : (e : Elements) (buffer : List ℕ) → 256 < parts_of e.set → (join e buffer).answer ≡ refused (plain 9)', 'asks less; 256 parts are refused by JoinsElements too'),
 ]
 
 
@@ -69,12 +69,12 @@ def passes(worker, name, text):
     kept = path.read_text(encoding='utf8')
     path.write_text(text, encoding='utf8')
     try:
-        run = subprocess.run(['rt', 'dev', crate], cwd=folder, capture_output=True, text=True, errors='replace')
+        run = subprocess.run(['rt', 'check'], cwd=folder / 'crates' / crate, capture_output=True, text=True, errors='replace')
     finally:
         path.write_text(kept, encoding='utf8')
     said = run.stdout + run.stderr
     if 'logic=' not in said:
-        raise SystemExit(f'definitions: rt dev gave no verdict: {said[-300:]}')
+        raise SystemExit(f'definitions: rt check gave no verdict: {said[-300:]}')
     return 'logic=not-proved' not in said
 
 
@@ -84,7 +84,7 @@ def work(worker, workers, names):
     for crate, listed in CRATES.items():
         folder = WORK / str(worker) / crate
         for copied in re.findall(r'(?m)^(\w+):', listed):
-            shutil.copytree(ROOT / 'crates' / copied, folder / 'crates' / copied)
+            shutil.copytree(ROOT / 'crates' / copied, folder / 'crates' / copied, ignore=shutil.ignore_patterns('out'))
         (folder / 'crates.txt').write_text(listed, encoding='utf8')
     tried, unseen = 0, []
     for i, (name, text, line) in enumerate(changes(names)):
