@@ -3,12 +3,30 @@
 // A tag has at most 2,048 bytes; one byte more is read, so that longer input is refused as such.
 #![tactic(auto)]
 
-use libc::{STDIN_FILENO, STDOUT_FILENO};
+ghost use Rattle.std.specs.Prelude.{◌≤◌, length, IfOk};
 
-fn main() {
+use std::io;
+use std::io::{Read, Write};
+
+// Reads until the buffer is full or the input has ended; answers how many bytes it read.
+fn read_full(input: &mut impl Read, buffer: &mut [u8]) -> io::Result<usize>
+    ensures { IfOk result (λ n. n ≤ length buffer.new) }
+{
+    let mut filled: usize = 0;
+    for _ in 0..buffer.len() {
+        let count = input.read(&mut buffer[filled..])?;
+        if count == 0 {
+            break;
+        }
+        filled += count;
+    }
+    Ok(filled)
+}
+
+fn main(rt: HostRuntime) -> io::Result<()> {
     let mut tag = [0u8; 2049];
-    let n = io::read_full(STDIN_FILENO, &mut tag);
+    let n = read_full(&mut rt.reader(), &mut tag)?;
     let mut out = [0u8; 20480];
     let length = listing::list(&tag[0..n], &mut out);
-    io::write_all(STDOUT_FILENO, &out[0..length]);
+    io::writer(&rt).write_all(&out[0..length])
 }
