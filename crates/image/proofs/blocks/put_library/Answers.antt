@@ -9,8 +9,8 @@ use Rattle.format.specs.Chain.{sealed}
 use Rattle.format.specs.Pieces.{Stored}
 use Rattle.image.specs.Laying.{content, FieldsFit, BlockFits, On}
 use Rattle.image.proofs.Drafts.{start, on-length, on-blank, put, put_byte, gap}
-use Rattle.image.proofs.blocks.put_library.Statement.{statement}
-use Rattle.image.proofs.blocks.put_library.Tie as tie
+use Rattle.image.proofs.blocks.put_library.Goals.{After-put_fields, After-seal_block}
+use Rattle.image.proofs.blocks.put_library.Goals as goal
 
 module _ {src made ats lens d : List ℕ} {at size : ℕ} (b : BlockFits src made ats lens at size d) (media : ℕ) where
   begun : On at d (0 ∷ 0 ∷ 0 ∷ 0 ∷ media ∷ []) (at + 5) (set d (at + 4) media)
@@ -26,20 +26,16 @@ module _ {src made ats lens d : List ℕ} {at size : ℕ} (b : BlockFits src mad
       → On at d (0 ∷ 0 ∷ 0 ∷ 0 ∷ media ∷ content src made ats lens) (at + size) d'
   laid d' e = put begun (content src made ats lens) d' (at + size) b.room (omega (arith, b.is), e.1)
 
-fields_laid : (c : tie.After-put-fields) → let s = c.before.before.before.before.before.before.before in
-    On s.args.at s.args.draft.now (0 ∷ 0 ∷ 0 ∷ 0 ∷ s.args.media ∷ content s.args.src.now s.args.made.now s.args.ats.now s.args.lens.now) (s.args.at + s.args.size) c.put-fields.new.1.1.1.1.0
-fields_laid c = laid c.before.before.before.before.before.before.before.requires _ _ c.put-fields.ensures
+fields_laid : (c : After-put_fields) → let s = c in
+    On s.args.at s.args.draft.now (0 ∷ 0 ∷ 0 ∷ 0 ∷ s.args.media ∷ content s.args.src.now s.args.made.now s.args.ats.now s.args.lens.now) (s.args.at + s.args.size) c.put_fields.new.draft
+fields_laid c = laid c.requires _ _ c.put_fields.ensures
 
-seal-block-requires : tie.Need-seal-block-requires
-seal-block-requires c κs =
-    let x = fields_laid c.before.before.before in
-    let b = c.before.before.before.before.before.before.before.before.before.before.requires in
+pub seal_block-requires : goal.seal_block-requires
+seal_block-requires c =
+    let x = fields_laid (goal.at.seal_block-requires c).After-put_fields in
+    let b = c.requires in
     (omega arith, omega (arith, b.is), b.short, omega (arith, on-length x, b.room))
 
-sealed-on : (c : tie.After-seal-block) → let s = c.before.before.before.before.before.before.before.before.before.before.before in
-    On s.args.at s.args.draft.now (sealed 1 (s.args.media ∷ content s.args.src.now s.args.made.now s.args.ats.now s.args.lens.now)) (s.args.at + s.args.size) c.seal-block.new.0
-sealed-on c = c.seal-block.ensures _ _ (fields_laid c.before.before.before.before)
-
-pub put-library-spec : {M : Type 1} → statement M
-put-library-spec =
-    tie.close (tie.spec (λ c. search rules) (λ c. search rules) (λ c. search rules) (λ c κs. fields_fit c.before.before.before.before.before.before.requires _) seal-block-requires (λ c. on-length (sealed-on c.before.before)) (λ c. (sealed-on c.before.before).is))
+sealed-on : (c : After-seal_block) → let s = c in
+    On s.args.at s.args.draft.now (sealed 1 (s.args.media ∷ content s.args.src.now s.args.made.now s.args.ats.now s.args.lens.now)) (s.args.at + s.args.size) c.seal_block.new.draft
+sealed-on c = c.seal_block.ensures _ _ (fields_laid c)
