@@ -1,164 +1,202 @@
 -- `image::draft` meets its contract: 10 and 11 in order, and then the layout piece by piece.
 use mathlib.Core.Path.{◌≡◌, refl, sym, ap, ◌∙◌}
-use mathlib.Core.Logic.{⊎_elim}
-use Prim.Native.Nat.{ℕ, ◌+◌}
+use Prim.Native.Nat.{ℕ, ◌+◌, ◌<◌}
 use native.Mathlib.Omega.{arith}
-use mathlib.Core.Bool.{Bool, true, false}
-use mathlib.Core.List.{List, [], ◌∷◌}
+use mathlib.Core.Bool.{Bool, true, false, ◌&&◌, ◌||◌}
+use mathlib.Core.List.{List, [], ◌∷◌, ◌++◌}
+use lib.Dec.{eqb, leb}
 use lib.ListN.{length, get_or}
 use borrow.Author.Rules.{rules}
+use Rattle.format.specs.Bytes.{if◌then◌else◌, is_empty, part, trim}
+use Rattle.format.specs.Fields.{basic_owner}
 use Rattle.format.specs.Answers.{need, in_order, afterwards}
-use Rattle.format.specs.Chain.{block_one}
-use Rattle.format.specs.Elements.{place, slot, clash}
+use Rattle.format.specs.Chain.{separated, block_with, block_one}
+use Rattle.format.specs.Elements.{places, place, slot, clash}
 use Rattle.format.specs.Layout.{owner_width, owner_of, library, has_layout}
+use Rattle.rows.specs.Rows.{slots_at}
 use Rattle.format.proofs.Tests.{not_t, not_f}
-use Rattle.image.specs.Laying.{OwnerOrNone, On}
-use Rattle.image.specs.Drafting.{drafting}
+use Rattle.image.specs.Laying.{OwnerOrNone, Lengths, On}
+use Rattle.image.specs.Drafting.{Draftable, drafting}
 use Rattle.image.proofs.Drafts.{blank-all, on-length, on-blank}
 use Rattle.image.proofs.Placing.{ss, sized, stands, slot_is, set-four, usage-one, owner-good, Fielded, fields-found, behind-told, size_is, block-is, content-long, room-is, room-told, Ready, headed, owned, blocked, first, second, third, no_third, last_fits, last}
-use Rattle.image.proofs.draft.Goals.{After-block_size-size, After-byte_at-media, After-clashing, After-has_room, After-owner_width-at, After-put_front, After-slot, After-slot-owner, After-usage_behind, Joined-size-ne0, Start}
+use Rattle.image.proofs.draft.Goals.{After-block_size-size, After-owner_width-at, After-put_front, Joined-size-ne0, then-size-ne0, else-size-ne0}
 use Rattle.image.proofs.draft.Goals as goal
 
 -- ---- what the code finds
 
-abbrev n : Start → ℕ
-n c = length c.args.draft.now
+module _ {src made ats lens d : List ℕ} (p : Draftable src made ats lens d) where
+  clash-told : (r t : Bool) → ((xs : List (List ℕ)) → Lengths xs lens → r ≡ clash xs) → r ≡ t → clash (ss p) ≡ t
+  clash-told r t c e = sym (c (ss p) (sized p)) ∙ e
 
-clash-told : (c : After-clashing) (t : Bool) → c.clashing.result ≡ t → clash (ss c.requires) ≡ t
-clash-told c t e = let p = c.requires in sym (c.clashing.ensures (ss p) (sized p)) ∙ e
+  owner-is : (name : ℕ) (x : List ℕ) → (name < places) × ((xs : List (List ℕ)) → Lengths xs lens → get_or xs name [] ≡ owner_of xs)
+      → x ≡ part (get_or ats name 0) (get_or lens name 0) (src ++ made) → x ≡ owner_of (ss p)
+  owner-is name x o e = e ∙ slot_is p name o.0 ∙ o.1 (ss p) (sized p)
 
-clear : (c : After-slot-owner) → clash (ss c.requires) ≡ false
-clear c = clash-told c false c.if-clashing.false
+  at-slot : (k : ℕ) (x : List ℕ) → k < places → x ≡ part (get_or ats k 0) (get_or lens k 0) (src ++ made) → x ≡ get_or (ss p) k []
+  at-slot k x h e = e ∙ slot_is p k h
 
-owner-is : (c : After-slot-owner) → c.slot-owner.result.now ≡ owner_of (ss c.requires)
-owner-is c = let p = c.requires in c.slot-owner.ensures ∙ slot_is p _ c.owner_place-name.ensures.0 ∙ c.owner_place-name.ensures.1 (ss p) (sized p)
+-- what it has found as soon as it has block 1's size
+record Found (src made ats lens d : List ℕ) (item name behind code media size : ℕ) (owner : List ℕ) : Type 0 where
+  fits : Draftable src made ats lens d
+  clear : clash (ss fits) ≡ false
+  owner-at : owner ≡ owner_of (ss fits)
+  behind-is : behind ≡ (if is_empty owner || basic_owner (owner_width (length d)) owner then 0 else length owner)
+  fields : Fielded src made (get_or ats item 0 ∷ get_or ats name 0 ∷ get_or ats (place 5) 0 ∷ []) (get_or lens item 0 ∷ behind ∷ code ∷ []) (library (length d) (ss fits))
+  media-is : media ≡ (library (length d) (ss fits)).media
+  told : (fs : List (List ℕ)) → Lengths fs (get_or lens item 0 ∷ behind ∷ code ∷ []) → size ≡ length (block_with 1 (trim media (separated fs)))
 
-owner-fine : (c : After-slot-owner) → OwnerOrNone c.slot-owner.result.now
-owner-fine c = rw (owner-is c) (owner-good c.requires (clear c))
-
-usage-is : (c : After-slot) → c.slot.result.now ≡ slot (ss (c).requires) 5
-usage-is c = c.slot.ensures ∙ slot_is (c).requires (place 5) (omega arith)
-
-fields : (c : After-usage_behind) → let s = from-owner c in
-    Fielded s.args.src.now s.args.made.now
-    (get_or s.args.ats.now c.item_place-item.result 0 ∷ get_or s.args.ats.now c.owner_place-name.result 0 ∷ get_or s.args.ats.now (place 5) 0 ∷ [])
-    (get_or s.args.lens.now c.item_place-item.result 0 ∷ c.owner_behind-behind.result ∷ c.usage_behind.result ∷ []) (library (n s) (ss s.pre))
+found : (c : After-block_size-size) → let a = c.args in
+    Found a.src.now a.made.now a.ats.now a.lens.now a.draft.now c.item_place-item.result c.owner_place-name.result c.owner_behind-behind.result c.usage_behind.result
+    c.byte_at-media.result c.block_size-size.result c.slot-owner.result.now
 unfolding library
-fields c =
-    let s = from-owner c in
-    let p = s.pre in
+found c =
+    let p = c.requires in
     let item = c.item_place-item in
     let name = c.owner_place-name in
-    fields-found p (n s) item.result name.result _ _ item.ensures.0 name.ensures.0 (item.ensures.1 (ss p) (sized p)) (name.ensures.1 (ss p) (sized p))
-    (rw (owner-is c) at c.owner_behind-behind.ensures) (rw (usage-is c) at c.usage_behind.ensures)
+    let o = owner-is p name.result c.slot-owner.result.now name.ensures c.slot-owner.ensures in
+    let u = at-slot p (place 5) c.slot.result.now (omega arith) c.slot.ensures in
+    record {
+      fits = p;
+      clear = clash-told p _ false c.clashing.ensures c.if-clashing.false;
+      owner-at = o;
+      behind-is = c.owner_behind-behind.ensures;
+      fields = fields-found p (length c.args.draft.now) item.result name.result _ _ item.ensures.0 name.ensures.0 (item.ensures.1 (ss p) (sized p)) (name.ensures.1 (ss p) (sized p))
+        (rw o at c.owner_behind-behind.ensures) (rw u at c.usage_behind.ensures);
+      media-is = c.byte_at-media.ensures ∙ ap (λ (x : List ℕ). get_or x 0 0) (at-slot p (place 19) c.slot-2.result.now (omega arith) c.slot-2.ensures);
+      told = c.block_size-size.ensures;
+    }
 
-media-is : (c : After-byte_at-media) → let s = c in c.byte_at-media.result ≡ (library (n s) (ss s.pre)).media
-unfolding library
-media-is c = c.byte_at-media.ensures ∙ ap (λ (x : List ℕ). get_or x 0 0) (c.slot-2.ensures ∙ slot_is (c).requires (place 19) (omega arith))
+module _ {src made ats lens d : List ℕ} {item name behind code media size : ℕ} {owner : List ℕ} (f : Found src made ats lens d item name behind code media size owner) where
+  abbrev n : ℕ
+  n = length d
 
-abbrev from-size : After-block_size-size → Start
-from-size c = from-owner (c)
+  abbrev all : List (List ℕ)
+  all = ss f.fits
 
-size-told : (c : After-block_size-size) → let s = from-size c in c.block_size-size.result ≡ length (block_one (library (n s) (ss s.pre)))
-size-told c = size_is (fields c) _ _ (media-is c) c.block_size-size.ensures
+  size-told : size ≡ length (block_one (library n all))
+  size-told = size_is f.fields _ _ f.media-is f.told
 
-room : (c : After-has_room) (t : Bool) → c.has_room.result ≡ t → let s = from-size c in has_layout (n s) (ss s.pre) s.args.carried.now ≡ t
-room c t e =
-    let s = from-size c in
-    sym (room-is (n s) (ss s.pre) s.args.carried.now s.pre.size _ (size-told c)) ∙ sym c.has_room.ensures ∙ e
+  owner-fine : OwnerOrNone owner
+  owner-fine = rw f.owner-at (owner-good f.fits f.clear)
+
+  module _ (carried : List ℕ) (r : Bool) (is : r ≡ leb size 255 && leb (21 + owner_width n + size + length carried) n) where
+    room : (t : Bool) → r ≡ t → has_layout n all carried ≡ t
+    room t e = sym (room-is n all carried f.fits.size _ size-told) ∙ sym is ∙ e
+
+    ready : r ≡ true → Ready all carried d
+    ready e = record { least = f.fits.size; blank = f.fits.blank; fit = room true e }
 
 pub returns-then-clashing : goal.returns-then-clashing
 unfolding drafting need in_order afterwards
-returns-then-clashing c = record { answered = rw (clash-told (goal.at.returns-then-clashing c).After-clashing true c.if-clashing.true); left = refl }
+returns-then-clashing c = record { answered = rw (clash-told c.requires _ true c.clashing.ensures c.if-clashing.true); left = refl }
+
+pub slot-owner-requires : goal.slot-owner-requires
+slot-owner-requires c = stands c.requires _ c.owner_place-name.ensures.0
+
+pub slot-requires : goal.slot-requires
+slot-requires c = stands c.requires (place 5) (omega arith)
+
+pub slot-requires-2 : goal.slot-requires-2
+slot-requires-2 c = stands c.requires (place 19) (omega arith)
+
+pub owner_behind-behind-requires : goal.owner_behind-behind-requires
+owner_behind-behind-requires c =
+    let p = c.requires in
+    let o = owner-is p c.owner_place-name.result c.slot-owner.result.now c.owner_place-name.ensures c.slot-owner.ensures in
+    (rw o (owner-good p (clash-told p _ false c.clashing.ensures c.if-clashing.false)), omega (arith, p.size))
+
+pub block_size-size-requires : goal.block_size-size-requires
+block_size-size-requires c = ?
+
+pub slot-requires-4 : goal.slot-requires-4
+slot-requires-4 c = stands c.requires (place 4) (omega arith)
 
 pub bounds-slot-0 : goal.bounds-slot-0
-bounds-slot-0 c = omega (arith, ap length (usage-is (goal.at.bounds-slot-0 c).After-slot), usage-one ((goal.at.bounds-slot-0 c).After-slot-owner).requires)
+bounds-slot-0 c = omega (arith, ap length (at-slot c.requires (place 5) c.slot.result.now (omega arith) c.slot.ensures), usage-one c.requires)
 
 pub returns-then-not-has_room : goal.returns-then-not-has_room
 unfolding drafting need in_order afterwards
-returns-then-not-has_room c = let h = (goal.at.returns-then-not-has_room c).After-has_room in record { answered = rw (clear (h), room h false (not_t _ c.if-not-has_room.true)); left = refl }
+returns-then-not-has_room c =
+    let f = found (goal.at.returns-then-not-has_room c).After-block_size-size in
+    record { answered = rw (f.clear, room f _ _ c.has_room.ensures false (not_t _ c.if-not-has_room.true)); left = refl }
 
 pub put_front-requires : goal.put_front-requires
 put_front-requires c =
-    let s = from-size (goal.at.put_front-requires c).After-block_size-size in
-    (blank-all s.args.draft.now s.pre.blank, omega (arith, s.pre.size), ap length (c.slot-4.ensures ∙ slot_is s.pre (place 4) (omega arith)) ∙ set-four s.pre)
+    let p = c.requires in
+    (blank-all c.args.draft.now p.blank, omega (arith, p.size), ap length (at-slot p (place 4) c.slot-4.result.now (omega arith) c.slot-4.ensures) ∙ set-four p)
 
 -- ---- the layout, piece by piece
 
-ready : (c : After-put_front) → let s = from-size c in Ready (ss s.pre) s.args.carried.now s.args.draft.now
-ready c =
-    let s = from-size c in
-    let e = c in
-    record { least = s.pre.size; blank = s.pre.blank; fit = room e true (not_f _ e.if-not-has_room.false) }
+abbrev Begun : (src made ats lens carried d d' : List ℕ) → Type 0
+Begun src made ats lens carried d d' = (p : Ready (slots_at (src ++ made) ats lens) carried d) → On 0 d (headed p) 21 d'
 
-on-front : (c : After-put_front) → On 0 (from-size c).args.draft.now (headed (ready c)) 21 c.put_front.new.draft
-on-front c =
-    let p = (from-size c).requires in
-    first (ready c) _ _ _ _ (c.slot-3.ensures ∙ slot_is p (place 1) (omega arith)) (c.slot-4.ensures ∙ slot_is p (place 4) (omega arith))
-    (ap (λ (x : List ℕ). get_or x 0 0) (usage-is c)) c.put_front.ensures
-
-abbrev owner-on : After-put_front → After-slot-owner
-owner-on c = to-owner c
+on-front : (c : After-put_front) → let a = c.args in Begun a.src.now a.made.now a.ats.now a.lens.now a.carried.now a.draft.now c.put_front.new.draft
+on-front c r =
+    let p = c.requires in
+    first r _ _ _ _ (at-slot p (place 1) c.slot-3.result.now (omega arith) c.slot-3.ensures) (at-slot p (place 4) c.slot-4.result.now (omega arith) c.slot-4.ensures)
+    (ap (λ (x : List ℕ). get_or x 0 0) (at-slot p (place 5) c.slot.result.now (omega arith) c.slot.ensures)) c.put_front.ensures
 
 pub put_owner-requires : goal.put_owner-requires
 put_owner-requires c =
-    let g = (goal.at.put_owner-requires c).After-put_front in
-    let x = on-front g in (
-      record { size = omega (arith, on-length x, (ready g).least); blank = on-blank x; good = owner-fine (owner-on g) },
-      rw (on-length x) (behind-told (owner_width (n (from-size g))) (owner-on g).slot-owner.result.now _ g.owner_behind-behind.ensures),
+    let f = found (goal.at.put_owner-requires c).After-block_size-size in
+    let x = on-front (goal.at.put_owner-requires c).After-put_front (ready f _ _ c.has_room.ensures (not_f _ c.if-not-has_room.false)) in (
+      record { size = omega (arith, on-length x, c.requires.size); blank = on-blank x; good = owner-fine f },
+      rw (on-length x) (behind-told (owner_width (length c.args.draft.now)) c.slot-owner.result.now _ f.behind-is),
     )
 
-on-owner : (c : After-owner_width-at) → let r = ready c in
-    On 0 (from-size c).args.draft.now (owned r) (21 + c.owner_width-at.result) c.put_owner.new.draft
-on-owner c =
-    let g = c in
-    second (ready g) _ (ap (λ (w : ℕ). 21 + w) c.owner_width-at.ensures) _ _ _ (owner-is (owner-on g)) (on-front g) c.put_owner.ensures
+on-owner : (c : After-owner_width-at) → let a = c.args in (p : Ready (slots_at (a.src.now ++ a.made.now) a.ats.now a.lens.now) a.carried.now a.draft.now)
+    → Begun a.src.now a.made.now a.ats.now a.lens.now a.carried.now a.draft.now c.put_front.new.draft → On 0 a.draft.now (owned p) (21 + c.owner_width-at.result) c.put_owner.new.draft
+on-owner c p x =
+    second p _ (ap (λ (w : ℕ). 21 + w) c.owner_width-at.ensures) _ _ _ (owner-is c.requires c.owner_place-name.result c.slot-owner.result.now c.owner_place-name.ensures c.slot-owner.ensures) (x p) c.put_owner.ensures
 
 pub put_library-requires : goal.put_library-requires
 put_library-requires c =
-    let o = (goal.at.put_library-requires c).After-owner_width-at in
-    let z = o in
-    let p = ready o in
-    let x = on-owner o in
+    let at = goal.at.put_library-requires c in
+    let f = found at.After-block_size-size in
+    let p = ready f _ _ c.has_room.ensures (not_f _ c.if-not-has_room.false) in
+    let x = on-owner at.After-owner_width-at p (on-front at.After-put_front) in
     let h = room-told _ _ _ p.least p.fit in
-    let e = fields z in
     record {
-      few = e.few;
-      row = e.row;
+      few = f.fields.few;
+      row = f.fields.row;
       blank = on-blank x;
-      is = content-long e _ _ (media-is z) z.block_size-size.ensures c.if-size-ne0.true;
-      short = omega (arith, h.0, size-told z);
-      room = omega (arith, h.1, size-told z, on-length x, o.owner_width-at.ensures);
+      is = content-long f.fields _ _ f.media-is f.told c.if-size-ne0.true;
+      short = omega (arith, h.0, size-told f);
+      room = omega (arith, h.1, size-told f, on-length x, c.owner_width-at.ensures);
     }
 
-on-block : (c : Joined-size-ne0) → let o = c in let r = ready o in
-    On 0 (from-size o).args.draft.now (blocked r) (21 + o.owner_width-at.result + o.block_size-size.result) c.if-size-ne0.draft
-on-block c =
-    let o = c in
-    let z = o in
-    let p = ready o in
-    let is = ap (λ (w : ℕ). 21 + w) o.owner_width-at.ensures in
-    let block = block-is (fields z) _ _ (media-is z) z.block_size-size.ensures in
-    ⊎_elim
-    (λ w. rw w.7 (third p _ is _ (size-told z) _ (on-owner o) _ (rw (block w.0.true) at w.4.ensures)))
-    (λ w. rw w.1 (no_third p _ is _ (size-told z) _ (on-owner o) w.0.false))
-    c.if-size-ne0.branch
+on-block : (c : Joined-size-ne0) → let a = c.args in
+    Found a.src.now a.made.now a.ats.now a.lens.now a.draft.now c.item_place-item.result c.owner_place-name.result c.owner_behind-behind.result c.usage_behind.result
+    c.byte_at-media.result c.block_size-size.result c.slot-owner.result.now
+    → (p : Ready (slots_at (a.src.now ++ a.made.now) a.ats.now a.lens.now) a.carried.now a.draft.now) → On 0 a.draft.now (owned p) (21 + c.owner_width-at.result) c.put_owner.new.draft
+    → On 0 a.draft.now (blocked p) (21 + c.owner_width-at.result + c.block_size-size.result) c.if-size-ne0.draft
+on-block c f p x =
+    let is = ap (λ (w : ℕ). 21 + w) c.owner_width-at.ensures in
+    let block = block-is f.fields _ _ f.media-is f.told in
+    elim c.if-size-ne0.branch [
+      | then-size-ne0 w ↦ rw w.draft-is (third p _ is _ (size-told f) _ x _ (rw (block w.if-size-ne0.true) at w.put_library.ensures))
+      | else-size-ne0 w ↦ rw w.draft-is (no_third p _ is _ (size-told f) _ x w.if-size-ne0.false)
+    ]
 
 pub overflow_add-at-2 : goal.overflow_add-at-2
 overflow_add-at-2 c =
-    let o = (goal.at.overflow_add-at-2 c).After-owner_width-at in
-    let p = ready o in omega (arith, o.owner_width-at.ensures, size-told o, (room-told _ _ _ p.least p.fit).0)
+    let f = found (goal.at.overflow_add-at-2 c).After-block_size-size in
+    let p = ready f _ _ c.has_room.ensures (not_f _ c.if-not-has_room.false) in
+    omega (arith, c.owner_width-at.ensures, size-told f, (room-told _ _ _ p.least p.fit).0)
 
 pub put_bytes-requires : goal.put_bytes-requires
-put_bytes-requires c = let j = (goal.at.put_bytes-requires c).Joined-size-ne0 in omega (arith, last_fits (ready (j)) _ _ (on-block j), on-length (on-block j))
-
-pub shape_of-draft : goal.shape_of-draft
-shape_of-draft c = c.draft-3-1.given ∙ on-length (on-block (goal.at.shape_of-draft c).Joined-size-ne0)
+put_bytes-requires c =
+    let at = goal.at.put_bytes-requires c in
+    let f = found at.After-block_size-size in
+    let p = ready f _ _ c.has_room.ensures (not_f _ c.if-not-has_room.false) in
+    let x = on-block at.Joined-size-ne0 f p (on-owner at.After-owner_width-at p (on-front at.After-put_front)) in
+    omega (arith, last_fits p _ _ x, on-length x)
 
 pub returns : goal.returns
 unfolding drafting need in_order afterwards
 returns c =
-    let b = (goal.at.returns c).After-put_bytes in
-    let j = b in
-    let p = ready (j) in
-    record { answered = rw (clear (owner-on (j)), p.fit); left = last p _ _ (on-block j) _ _ b.put_bytes.ensures }
+    let at = goal.at.returns c in
+    let f = found at.After-block_size-size in
+    let p = ready f _ _ c.has_room.ensures (not_f _ c.if-not-has_room.false) in
+    let x = on-block at.Joined-size-ne0 f p (on-owner at.After-owner_width-at p (on-front at.After-put_front)) in
+    record { answered = rw (f.clear, p.fit); left = last p _ _ x _ _ c.put_bytes.ensures }

@@ -52,7 +52,10 @@ found : (c : Joined-second-eq45) → let o = c.args.owner.now in packed o ≡ ge
 found c =
     let p = c.requires in
     let o = c.args.owner.now in
-    let b = c.if-second-eq45.branch in ?
+    elim c.if-second-eq45.branch [
+      | then-second-eq45 w ↦ (one-capital (sides p) w.if-second-eq45.true).packs ∙ ap₂ (λ (b k : ℕ). get_or o 0 0 ∷ b ∷ drop k o) (sym w.second-is) (sym w.from-is)
+      | else-second-eq45 w ↦ (held_two _ (sides p) w.if-second-eq45.false p.held).packs ∙ ap₂ (λ (b k : ℕ). get_or o 0 0 ∷ b ∷ drop k o) (sym w.second-is) (sym w.from-is)
+    ]
 
 inside : (c : Joined-second-eq45) → c.if-second-eq45.from ≤ length c.args.owner.now
 inside c = let l = (prefixed-facts (sides c.requires)).0 in elim c.if-second-eq45.branch [ then-second-eq45 w ↦ omega (arith, w.from-is) | else-second-eq45 w ↦ omega (arith, w.from-is) ]

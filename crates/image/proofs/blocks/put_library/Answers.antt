@@ -9,7 +9,6 @@ use Rattle.format.specs.Chain.{sealed}
 use Rattle.format.specs.Pieces.{Stored}
 use Rattle.image.specs.Laying.{content, FieldsFit, BlockFits, On}
 use Rattle.image.proofs.Drafts.{start, on-length, on-blank, put, put_byte, gap}
-use Rattle.image.proofs.blocks.put_library.Goals.{After-put_fields, After-seal_block}
 use Rattle.image.proofs.blocks.put_library.Goals as goal
 
 module _ {src made ats lens d : List ℕ} {at size : ℕ} (b : BlockFits src made ats lens at size d) (media : ℕ) where
@@ -26,16 +25,17 @@ module _ {src made ats lens d : List ℕ} {at size : ℕ} (b : BlockFits src mad
       → On at d (0 ∷ 0 ∷ 0 ∷ 0 ∷ media ∷ content src made ats lens) (at + size) d'
   laid d' e = put begun (content src made ats lens) d' (at + size) b.room (omega (arith, b.is), e.1)
 
-fields_laid : (c : After-put_fields) → let s = c in
-    On s.args.at s.args.draft.now (0 ∷ 0 ∷ 0 ∷ 0 ∷ s.args.media ∷ content s.args.src.now s.args.made.now s.args.ats.now s.args.lens.now) (s.args.at + s.args.size) c.put_fields.new.draft
-fields_laid c = laid c.requires _ _ c.put_fields.ensures
+  sealed-on : (d' d'' : List ℕ) → Stored (set d (at + 4) media) (at + 5) (content src made ats lens) (at + 5 + length (content src made ats lens)) d'
+      → ((o p : List ℕ) → On at o (0 ∷ 0 ∷ 0 ∷ 0 ∷ p) (at + size) d' → On at o (sealed 1 p) (at + size) d'') → On at d (sealed 1 (media ∷ content src made ats lens)) (at + size) d''
+  sealed-on d' d'' e f = f _ _ (laid d' e)
+
+pub put_fields-requires : goal.put_fields-requires
+put_fields-requires c = fields_fit c.requires _
 
 pub seal_block-requires : goal.seal_block-requires
 seal_block-requires c =
-    let x = fields_laid (goal.at.seal_block-requires c).After-put_fields in
     let b = c.requires in
-    (omega arith, omega (arith, b.is), b.short, omega (arith, on-length x, b.room))
+    (omega arith, omega (arith, b.is), b.short, omega (arith, on-length (laid b _ _ c.put_fields.ensures), b.room))
 
-sealed-on : (c : After-seal_block) → let s = c in
-    On s.args.at s.args.draft.now (sealed 1 (s.args.media ∷ content s.args.src.now s.args.made.now s.args.ats.now s.args.lens.now)) (s.args.at + s.args.size) c.seal_block.new.draft
-sealed-on c = c.seal_block.ensures _ _ (fields_laid c)
+pub returns : goal.returns
+returns c = (sealed-on c.requires _ _ _ c.put_fields.ensures c.seal_block.ensures).is
