@@ -14,12 +14,11 @@ use Rattle.format.specs.Chain.{separated, block_with, block_one}
 use Rattle.format.specs.Elements.{places, place, slot, clash}
 use Rattle.format.specs.Layout.{owner_width, owner_of, library, has_layout}
 use Rattle.rows.specs.Rows.{slots_at}
-use Rattle.format.proofs.Tests.{not_t, not_f}
 use Rattle.image.specs.Laying.{OwnerOrNone, Lengths, On}
 use Rattle.image.specs.Drafting.{Draftable, drafting}
 use Rattle.image.proofs.Drafts.{blank-all, on-length, on-blank}
 use Rattle.image.proofs.Placing.{ss, sized, stands, slot_is, set-four, usage-one, owner-good, Fielded, fields-found, behind-told, size_is, block-is, content-long, room-is, room-told, Ready, headed, owned, blocked, first, second, third, no_third, last_fits, last}
-use Rattle.image.proofs.draft.Goals.{After-block_size-size, After-owner_width-at, After-put_front, Joined-size-ne0, then-size-ne0, else-size-ne0}
+use Rattle.image.proofs.draft.Goals.{After-usage_behind, After-owner_width-at, After-put_front, Joined-size-ne0, then-size-ne0, else-size-ne0}
 use Rattle.image.proofs.draft.Goals as goal
 
 -- ---- what the code finds
@@ -35,19 +34,18 @@ module _ {src made ats lens d : List ℕ} (p : Draftable src made ats lens d) wh
   at-slot : (k : ℕ) (x : List ℕ) → k < places → x ≡ part (get_or ats k 0) (get_or lens k 0) (src ++ made) → x ≡ get_or (ss p) k []
   at-slot k x h e = e ∙ slot_is p k h
 
--- what it has found as soon as it has block 1's size
-record Found (src made ats lens d : List ℕ) (item name behind code media size : ℕ) (owner : List ℕ) : Type 0 where
+-- what it has found before it asks for block 1's size
+record Found (src made ats lens d : List ℕ) (item name behind code media : ℕ) (owner : List ℕ) : Type 0 where
   fits : Draftable src made ats lens d
   clear : clash (ss fits) ≡ false
   owner-at : owner ≡ owner_of (ss fits)
   behind-is : behind ≡ (if is_empty owner || basic_owner (owner_width (length d)) owner then 0 else length owner)
   fields : Fielded src made (get_or ats item 0 ∷ get_or ats name 0 ∷ get_or ats (place 5) 0 ∷ []) (get_or lens item 0 ∷ behind ∷ code ∷ []) (library (length d) (ss fits))
   media-is : media ≡ (library (length d) (ss fits)).media
-  told : (fs : List (List ℕ)) → Lengths fs (get_or lens item 0 ∷ behind ∷ code ∷ []) → size ≡ length (block_with 1 (trim media (separated fs)))
 
-found : (c : After-block_size-size) → let a = c.args in
+found : (c : After-usage_behind) → let a = c.args in
     Found a.src.now a.made.now a.ats.now a.lens.now a.draft.now c.item_place-item.result c.owner_place-name.result c.owner_behind-behind.result c.usage_behind.result
-    c.byte_at-media.result c.block_size-size.result c.slot-owner.result.now
+    c.byte_at-media.result c.slot-owner.result.now
 unfolding library
 found c =
     let p = c.requires in
@@ -63,28 +61,28 @@ found c =
       fields = fields-found p (length c.args.draft.now) item.result name.result _ _ item.ensures.0 name.ensures.0 (item.ensures.1 (ss p) (sized p)) (name.ensures.1 (ss p) (sized p))
         (rw o at c.owner_behind-behind.ensures) (rw u at c.usage_behind.ensures);
       media-is = c.byte_at-media.ensures ∙ ap (λ (x : List ℕ). get_or x 0 0) (at-slot p (place 19) c.slot-2.result.now (omega arith) c.slot-2.ensures);
-      told = c.block_size-size.ensures;
     }
 
-module _ {src made ats lens d : List ℕ} {item name behind code media size : ℕ} {owner : List ℕ} (f : Found src made ats lens d item name behind code media size owner) where
+module _ {src made ats lens d : List ℕ} {item name behind code media : ℕ} {owner : List ℕ} (f : Found src made ats lens d item name behind code media owner) where
   abbrev n : ℕ
   n = length d
 
   abbrev all : List (List ℕ)
   all = ss f.fits
 
-  size-told : size ≡ length (block_one (library n all))
-  size-told = size_is f.fields _ _ f.media-is f.told
-
   owner-fine : OwnerOrNone owner
   owner-fine = rw f.owner-at (owner-good f.fits f.clear)
 
-  module _ (carried : List ℕ) (r : Bool) (is : r ≡ leb size 255 && leb (21 + owner_width n + size + length carried) n) where
-    room : (t : Bool) → r ≡ t → has_layout n all carried ≡ t
-    room t e = sym (room-is n all carried f.fits.size _ size-told) ∙ sym is ∙ e
+  module _ (size : ℕ) (told : (fs : List (List ℕ)) → Lengths fs (get_or lens item 0 ∷ behind ∷ code ∷ []) → size ≡ length (block_with 1 (trim media (separated fs)))) where
+    size-told : size ≡ length (block_one (library n all))
+    size-told = size_is f.fields _ _ f.media-is told
 
-    ready : r ≡ true → Ready all carried d
-    ready e = record { least = f.fits.size; blank = f.fits.blank; fit = room true e }
+    module _ (carried : List ℕ) (r : Bool) (is : r ≡ leb size 255 && leb (21 + owner_width n + size + length carried) n) where
+      room : (t : Bool) → r ≡ t → has_layout n all carried ≡ t
+      room t e = sym (room-is n all carried f.fits.size _ size-told) ∙ sym is ∙ e
+
+      ready : r ≡ true → Ready all carried d
+      ready e = record { least = f.fits.size; blank = f.fits.blank; fit = room true e }
 
 pub returns-then-clashing : goal.returns-then-clashing
 unfolding drafting need in_order afterwards
@@ -106,7 +104,7 @@ owner_behind-behind-requires c =
     (rw o (owner-good p (clash-told p _ false c.clashing.ensures c.if-clashing.false)), omega (arith, p.size))
 
 pub block_size-size-requires : goal.block_size-size-requires
-block_size-size-requires c = ?
+block_size-size-requires c = (found (goal.at.block_size-size-requires c).After-usage_behind).fields.few
 
 pub slot-requires-4 : goal.slot-requires-4
 slot-requires-4 c = stands c.requires (place 4) (omega arith)
@@ -117,8 +115,8 @@ bounds-slot-0 c = omega (arith, ap length (at-slot c.requires (place 5) c.slot.r
 pub returns-then-not-has_room : goal.returns-then-not-has_room
 unfolding drafting need in_order afterwards
 returns-then-not-has_room c =
-    let f = found (goal.at.returns-then-not-has_room c).After-block_size-size in
-    record { answered = rw (f.clear, room f _ _ c.has_room.ensures false (not_t _ c.if-not-has_room.true)); left = refl }
+    let f = found (goal.at.returns-then-not-has_room c).After-usage_behind in
+    record { answered = rw (f.clear, room f _ c.block_size-size.ensures _ _ c.has_room.ensures false c.if-not-has_room.true); left = refl }
 
 pub put_front-requires : goal.put_front-requires
 put_front-requires c =
@@ -138,8 +136,8 @@ on-front c r =
 
 pub put_owner-requires : goal.put_owner-requires
 put_owner-requires c =
-    let f = found (goal.at.put_owner-requires c).After-block_size-size in
-    let x = on-front (goal.at.put_owner-requires c).After-put_front (ready f _ _ c.has_room.ensures (not_f _ c.if-not-has_room.false)) in (
+    let f = found (goal.at.put_owner-requires c).After-usage_behind in
+    let x = on-front (goal.at.put_owner-requires c).After-put_front (ready f _ c.block_size-size.ensures _ _ c.has_room.ensures c.if-not-has_room.false) in (
       record { size = omega (arith, on-length x, c.requires.size); blank = on-blank x; good = owner-fine f },
       rw (on-length x) (behind-told (owner_width (length c.args.draft.now)) c.slot-owner.result.now _ f.behind-is),
     )
@@ -152,43 +150,43 @@ on-owner c p x =
 pub put_library-requires : goal.put_library-requires
 put_library-requires c =
     let at = goal.at.put_library-requires c in
-    let f = found at.After-block_size-size in
-    let p = ready f _ _ c.has_room.ensures (not_f _ c.if-not-has_room.false) in
+    let f = found at.After-usage_behind in
+    let p = ready f _ c.block_size-size.ensures _ _ c.has_room.ensures c.if-not-has_room.false in
     let x = on-owner at.After-owner_width-at p (on-front at.After-put_front) in
     let h = room-told _ _ _ p.least p.fit in
     record {
       few = f.fields.few;
       row = f.fields.row;
       blank = on-blank x;
-      is = content-long f.fields _ _ f.media-is f.told c.if-size-ne0.true;
-      short = omega (arith, h.0, size-told f);
-      room = omega (arith, h.1, size-told f, on-length x, c.owner_width-at.ensures);
+      is = content-long f.fields _ _ f.media-is c.block_size-size.ensures c.if-size-ne0.true;
+      short = omega (arith, h.0, size-told f _ c.block_size-size.ensures);
+      room = omega (arith, h.1, size-told f _ c.block_size-size.ensures, on-length x, c.owner_width-at.ensures);
     }
 
 on-block : (c : Joined-size-ne0) → let a = c.args in
     Found a.src.now a.made.now a.ats.now a.lens.now a.draft.now c.item_place-item.result c.owner_place-name.result c.owner_behind-behind.result c.usage_behind.result
-    c.byte_at-media.result c.block_size-size.result c.slot-owner.result.now
+    c.byte_at-media.result c.slot-owner.result.now
     → (p : Ready (slots_at (a.src.now ++ a.made.now) a.ats.now a.lens.now) a.carried.now a.draft.now) → On 0 a.draft.now (owned p) (21 + c.owner_width-at.result) c.put_owner.new.draft
     → On 0 a.draft.now (blocked p) (21 + c.owner_width-at.result + c.block_size-size.result) c.if-size-ne0.draft
 on-block c f p x =
     let is = ap (λ (w : ℕ). 21 + w) c.owner_width-at.ensures in
-    let block = block-is f.fields _ _ f.media-is f.told in
+    let block = block-is f.fields _ _ f.media-is c.block_size-size.ensures in
     elim c.if-size-ne0.branch [
-      | then-size-ne0 w ↦ rw w.draft-is (third p _ is _ (size-told f) _ x _ (rw (block w.if-size-ne0.true) at w.put_library.ensures))
-      | else-size-ne0 w ↦ rw w.draft-is (no_third p _ is _ (size-told f) _ x w.if-size-ne0.false)
+      | then-size-ne0 w ↦ rw w.draft-is (third p _ is _ (size-told f _ c.block_size-size.ensures) _ x _ (rw (block w.if-size-ne0.true) at w.put_library.ensures))
+      | else-size-ne0 w ↦ rw w.draft-is (no_third p _ is _ (size-told f _ c.block_size-size.ensures) _ x w.if-size-ne0.false)
     ]
 
 pub overflow_add-at-2 : goal.overflow_add-at-2
 overflow_add-at-2 c =
-    let f = found (goal.at.overflow_add-at-2 c).After-block_size-size in
-    let p = ready f _ _ c.has_room.ensures (not_f _ c.if-not-has_room.false) in
-    omega (arith, c.owner_width-at.ensures, size-told f, (room-told _ _ _ p.least p.fit).0)
+    let f = found (goal.at.overflow_add-at-2 c).After-usage_behind in
+    let p = ready f _ c.block_size-size.ensures _ _ c.has_room.ensures c.if-not-has_room.false in
+    omega (arith, c.owner_width-at.ensures, size-told f _ c.block_size-size.ensures, (room-told _ _ _ p.least p.fit).0)
 
 pub put_bytes-requires : goal.put_bytes-requires
 put_bytes-requires c =
     let at = goal.at.put_bytes-requires c in
-    let f = found at.After-block_size-size in
-    let p = ready f _ _ c.has_room.ensures (not_f _ c.if-not-has_room.false) in
+    let f = found at.After-usage_behind in
+    let p = ready f _ c.block_size-size.ensures _ _ c.has_room.ensures c.if-not-has_room.false in
     let x = on-block at.Joined-size-ne0 f p (on-owner at.After-owner_width-at p (on-front at.After-put_front)) in
     omega (arith, last_fits p _ _ x, on-length x)
 
@@ -196,7 +194,7 @@ pub returns : goal.returns
 unfolding drafting need in_order afterwards
 returns c =
     let at = goal.at.returns c in
-    let f = found at.After-block_size-size in
-    let p = ready f _ _ c.has_room.ensures (not_f _ c.if-not-has_room.false) in
+    let f = found at.After-usage_behind in
+    let p = ready f _ c.block_size-size.ensures _ _ c.has_room.ensures c.if-not-has_room.false in
     let x = on-block at.Joined-size-ne0 f p (on-owner at.After-owner_width-at p (on-front at.After-put_front)) in
     record { answered = rw (f.clear, p.fit); left = last p _ _ x _ _ c.put_bytes.ensures }
