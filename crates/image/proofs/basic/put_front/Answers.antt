@@ -60,9 +60,6 @@ returns-then-item-gt16 c =
 pub put_bytes-requires : goal.put_bytes-requires
 put_bytes-requires c = simp length-set (omega arith)
 
-pub shape_of-draft : goal.shape_of-draft
-shape_of-draft c = simp length-set at c.draft-1.given
-
 pub returns : goal.returns
 returns c =
     let a = c.args in unmarked a.draft.now a.item.now a.set.now a.usage c.requires.0 c.requires.1 _ _ c.if-item-gt16.false c.put_bytes.ensures

@@ -69,9 +69,6 @@ slice_bounds-put_bytes-start c = inside (goal.at.slice_bounds-put_bytes-start c)
 pub put_bytes-requires : goal.put_bytes-requires
 put_bytes-requires c = let j = (goal.at.put_bytes-requires c).Joined-second-eq45 in simp length-set (fits j.requires _ _ _ (found j))
 
-pub shape_of-draft : goal.shape_of-draft
-shape_of-draft c = simp length-set at c.draft-1.given
-
 pub returns : goal.returns
 returns c =
     let j = (goal.at.returns c).Joined-second-eq45 in
