@@ -4,14 +4,13 @@ use Prim.Native.Nat.{ℕ, ◌+◌, ◌<◌}
 use native.Mathlib.Omega.{arith}
 use mathlib.Core.Bool.{Bool, true, false, ◌&&◌, ◌||◌}
 use mathlib.Core.List.{List, [], ◌∷◌, ◌++◌}
-use lib.Dec.{eqb, leb}
+use lib.Dec.{leb}
 use lib.ListN.{length, get_or}
-use borrow.Author.Rules.{rules}
 use Rattle.format.specs.Bytes.{if◌then◌else◌, is_empty, part, trim}
 use Rattle.format.specs.Fields.{basic_owner}
 use Rattle.format.specs.Answers.{need, in_order, afterwards}
 use Rattle.format.specs.Chain.{separated, block_with, block_one}
-use Rattle.format.specs.Elements.{places, place, slot, clash}
+use Rattle.format.specs.Elements.{places, place, clash}
 use Rattle.format.specs.Layout.{owner_width, owner_of, library, has_layout}
 use Rattle.rows.specs.Rows.{slots_at}
 use Rattle.image.specs.Laying.{OwnerOrNone, Lengths, On}
@@ -59,7 +58,7 @@ found c =
       owner-at = o;
       behind-is = c.owner_behind-behind.ensures;
       fields = fields-found p (length c.args.draft.now) item.result name.result _ _ item.ensures.0 name.ensures.0 (item.ensures.1 (ss p) (sized p)) (name.ensures.1 (ss p) (sized p))
-        (rw o at c.owner_behind-behind.ensures) (rw u at c.usage_behind.ensures);
+          (rw o at c.owner_behind-behind.ensures) (rw u at c.usage_behind.ensures);
       media-is = c.byte_at-media.ensures ∙ ap (λ (x : List ℕ). get_or x 0 0) (at-slot p (place 19) c.slot-2.result.now (omega arith) c.slot-2.ensures);
     }
 

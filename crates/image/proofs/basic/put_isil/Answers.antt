@@ -1,12 +1,10 @@
 -- `image::basic::put_isil` meets its contract: two bytes, and the unit behind them.
 use mathlib.Core.Path.{◌≡◌, sym, ap, ap₂, ◌∙◌}
-use mathlib.Core.Logic.{⊎_elim}
 use Prim.Native.Nat.{ℕ, ◌+◌, ◌-◌, ◌≤◌}
 use native.Mathlib.Omega.{arith}
 use mathlib.Core.List.{List, [], ◌∷◌}
 use lib.ListN.{length, take, drop, get_or, set, length-set, length-drop}
 use lib.Seq.{take_all}
-use borrow.Author.Rules.{rules}
 use Rattle.format.specs.Fields.{packed}
 use Rattle.format.specs.Pieces.{Stored}
 use Rattle.image.specs.Laying.{IsilFits, On}

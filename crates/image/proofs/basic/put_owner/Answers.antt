@@ -5,7 +5,6 @@ use native.Mathlib.Omega.{arith}
 use mathlib.Core.Bool.{Bool, true, false, ◌||◌}
 use mathlib.Core.List.{List, [], ◌∷◌}
 use lib.ListN.{length, set}
-use borrow.Author.Rules.{rules}
 use Rattle.format.specs.Bytes.{if◌then◌else◌, is_empty, pad_with, pad}
 use Rattle.format.specs.Fields.{marker, alternate, packed, basic_owner, owner_field}
 use Rattle.format.specs.Layout.{owner_width}

@@ -1,11 +1,9 @@
 -- `image::blocks::fields_size` meets its contract: the fields from place k on have `size` bytes.
 use mathlib.Core.Path.{◌≡◌, sym, ap, ◌∙◌}
-use mathlib.Core.Logic.{◌⊎◌, inl, inr, ⊎_elim}
+use mathlib.Core.Logic.{◌⊎◌, inl, inr}
 use Prim.Native.Nat.{ℕ, ◌+◌, ◌-◌, ◌*◌, ◌≤◌}
 use native.Mathlib.Omega.{arith}
-use mathlib.Core.List.{List}
 use lib.ListN.{length, get_or, drop, drop_of_length-le}
-use borrow.Author.Rules.{rules}
 use Rattle.format.proofs.Tests.{bytes-at}
 use Rattle.image.specs.Laying.{fields_size}
 use Rattle.image.proofs.Contents.{size-turn}

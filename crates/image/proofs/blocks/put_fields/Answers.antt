@@ -1,11 +1,9 @@
 -- `image::blocks::put_fields` meets its contract: the fields before place k are laid down, and the next belongs at `to`.
 use mathlib.Core.Path.{◌≡◌, refl, sym, ◌∙◌}
-use mathlib.Core.Logic.{⊎_elim}
-use Prim.Native.Nat.{ℕ, ◌+◌, ◌-◌, ◌*◌, ◌≤◌, ◌<◌}
+use Prim.Native.Nat.{ℕ, ◌+◌, ◌*◌, ◌≤◌, ◌<◌}
 use native.Mathlib.Omega.{arith}
 use mathlib.Core.List.{List, ◌∷◌, ◌++◌}
 use lib.ListN.{length, get_or, drop, drop_of_length-le}
-use borrow.Author.Rules.{rules}
 use Rattle.format.specs.Bytes.{part}
 use Rattle.format.specs.Pieces.{Stored}
 use Rattle.format.proofs.Tests.{bytes-at}
@@ -14,7 +12,7 @@ use Rattle.format.proofs.Pieces.{stored-none, stored-length}
 use Rattle.rows.specs.Rows.{slots_at, Stands}
 use Rattle.rows.proofs.Rows.{row-lengths, row-turn, standing-length}
 use Rattle.image.specs.Laying.{content}
-use Rattle.image.proofs.Contents.{Laying, laying-start, laying-end, field_fits, laying-next}
+use Rattle.image.proofs.Contents.{Laying, laying-end, field_fits, laying-next}
 use Rattle.image.proofs.blocks.put_fields.Goals.{In-loop-k, then-len-ne0, else-len-ne0}
 use Rattle.image.proofs.blocks.put_fields.Goals as goal
 
@@ -55,7 +53,7 @@ module _ (c : In-loop-k) where
   again : (d : List ℕ) → length d ≡ length c.loop-k.draft → Stored c.loop-k.draft to field (to + length field) d
       → (k + 1 ≤ length c.args.lens.now) × (to + (len + 1) ≤ c.args.at + 256 * (k + 1))
       × Laying c.args.draft.now c.args.at (content c.args.src.now c.args.made.now c.args.ats.now c.args.lens.now) d (to + (len + 1))
-        (slots_at (c.args.src.now ++ c.args.made.now) (drop (k + 1) c.args.ats.now) (drop (k + 1) c.args.lens.now))
+      (slots_at (c.args.src.now ++ c.args.made.now) (drop (k + 1) c.args.ats.now) (drop (k + 1) c.args.lens.now))
   again d same e =
       let on : to + length field + 1 ≡ to + (len + 1) = omega (arith, long) in
       (omega (arith, c.loop-k-test.true), omega (arith, small, c.loop-k.invariant.1), rw on at (laying-next laying d same e))
@@ -85,7 +83,7 @@ loop-k-preserved c =
     let draft = d.loop-k.draft in
     elim c.if-len-ne0.branch [
       | then-len-ne0 w ↦
-        let e = rw w.piece.ensures at w.put_bytes.ensures in rw w.draft-is (again d _ (stored-length draft (field d) _ (to d) _ (fits d w.if-len-ne0.true) e) (refl, e.1))
+          let e = rw w.piece.ensures at w.put_bytes.ensures in rw w.draft-is (again d _ (stored-length draft (field d) _ (to d) _ (fits d w.if-len-ne0.true) e) (refl, e.1))
       | else-len-ne0 w ↦ rw w.draft-is (again d draft refl (rw (nil-of (field d) (long d ∙ w.if-len-ne0.false)) (refl, (stored-none draft (to d)).1)))
     ]
 

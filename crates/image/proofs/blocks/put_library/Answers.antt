@@ -4,7 +4,6 @@ use Prim.Native.Nat.{ℕ, ◌+◌}
 use native.Mathlib.Omega.{arith}
 use mathlib.Core.List.{List, [], ◌∷◌}
 use lib.ListN.{length, set}
-use borrow.Author.Rules.{rules}
 use Rattle.format.specs.Chain.{sealed}
 use Rattle.format.specs.Pieces.{Stored}
 use Rattle.image.specs.Laying.{content, FieldsFit, BlockFits, On}

@@ -4,9 +4,8 @@ use Prim.Native.Nat.{ℕ, ◌+◌, ◌-◌, ◌≤◌}
 use native.Mathlib.Nat.{add-zero}
 use native.Mathlib.Omega.{arith}
 use mathlib.Core.List.{List, [], ◌∷◌, ◌++◌}
-use lib.ListN.{length, take, drop, set, length-set}
+use lib.ListN.{length, take, drop, set}
 use lib.Bits.{bit_xor, xor_zero_l}
-use borrow.Author.Rules.{rules}
 use Rattle.format.specs.Bytes.{xor_all}
 use Rattle.format.specs.Chain.{sealed}
 use Rattle.format.proofs.Strings.{le16-byte}

@@ -1,5 +1,4 @@
 -- `image::sizes::has_room` meets its contract.
-use borrow.Author.Rules.{rules}
 use borrow.Author.Tests.{le-leb, lt-leb}
 use Rattle.image.proofs.sizes.has_room.Goals as goal
 

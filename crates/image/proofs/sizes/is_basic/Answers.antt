@@ -1,7 +1,6 @@
 -- `image::sizes::is_basic` meets its contract: the first byte tells an alternative owner, the place of the hyphen the ISIL's prefix.
 use mathlib.Core.Path.{sym}
 use native.Mathlib.Omega.{arith}
-use borrow.Author.Rules.{rules}
 use Rattle.format.proofs.Strings.{nil-of}
 use Rattle.image.proofs.OwnerForms.{Prefixed, prefixed-facts, low-alternate, high-isil, alternate-basic, one-capital, two-capitals, more-capitals}
 use Rattle.image.proofs.sizes.is_basic.Goals.{Else-owner-lt4}

@@ -4,7 +4,6 @@ use Prim.Native.Nat.{ℕ}
 use mathlib.Core.Bool.{Bool, true, false, ◌||◌}
 use mathlib.Core.List.{List}
 use lib.ListN.{length}
-use borrow.Author.Rules.{rules}
 use Rattle.format.specs.Bytes.{if◌then◌else◌, is_empty}
 use Rattle.format.specs.Fields.{basic_owner}
 use Rattle.image.proofs.sizes.owner_behind.Goals as goal
