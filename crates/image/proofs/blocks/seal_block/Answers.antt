@@ -4,16 +4,14 @@ use Prim.Native.Nat.{ℕ, ◌+◌, ◌-◌, ◌≤◌}
 use native.Mathlib.Nat.{add-zero}
 use native.Mathlib.Omega.{arith}
 use mathlib.Core.List.{List, [], ◌∷◌, ◌++◌}
-use lib.ListN.{length, take, drop, set, length-set}
+use lib.ListN.{length, take, drop, set}
 use lib.Bits.{bit_xor, xor_zero_l}
-use borrow.Author.Rules.{rules}
 use Rattle.format.specs.Bytes.{xor_all}
 use Rattle.format.specs.Chain.{sealed}
 use Rattle.format.proofs.Strings.{le16-byte}
 use Rattle.image.specs.Laying.{On}
 use Rattle.image.proofs.Drafts.{over, on-part}
-use Rattle.image.proofs.blocks.seal_block.Statement.{statement}
-use Rattle.image.proofs.blocks.seal_block.Tie as tie
+use Rattle.image.proofs.blocks.seal_block.Goals as goal
 
 module _ (at size id : ℕ) (o p d : List ℕ) (small : id ≤ 100) (x : On at o (0 ∷ 0 ∷ 0 ∷ 0 ∷ p) (at + size) d) where
   abbrev headed : List ℕ
@@ -36,11 +34,5 @@ module _ (at size id : ℕ) (o p d : List ℕ) (small : id ≤ 100) (x : On at o
   unfolding sealed
   ended sum h = rw (le16-byte id (omega arith), ← long, ← (summed sum h)) (over on 3 sum (omega arith))
 
-returns : tie.Need-returns
-returns c o p x = let s = c.before.before.before.before in ended s.args.at s.args.size s.args.id o p s.args.draft.now s.requires.0 x c.xor-of.result c.xor-of.ensures
-
-pub seal-block-spec : {M : Type 1} → statement M
-seal-block-spec =
-    tie.close
-    (tie.spec (λ c. search rules) (λ c. search rules) (λ c. search rules) (λ c. simp length-set (omega (arith, c.before.requires))) (λ c. search rules) (λ c. search rules) (λ c. search rules)
-    (λ c. search rules) (λ c κs. search rules) (λ c. search rules) (λ c. simp length-set (omega (arith, c.before.before.before.before.requires))) (λ c. search rules) returns)
+pub returns : goal.returns
+returns c o p x = ended c.args.at c.args.size c.args.id o p c.args.draft.now c.requires.0 x c.xor_of-sum.result c.xor_of-sum.ensures

@@ -5,7 +5,6 @@ use native.Mathlib.Omega.{arith}
 use mathlib.Core.Bool.{Bool, true, false, ◌||◌}
 use mathlib.Core.List.{List, [], ◌∷◌}
 use lib.ListN.{length, set}
-use borrow.Author.Rules.{rules}
 use Rattle.format.specs.Bytes.{if◌then◌else◌, is_empty, pad_with, pad}
 use Rattle.format.specs.Fields.{marker, alternate, packed, basic_owner, owner_field}
 use Rattle.format.specs.Layout.{owner_width}
@@ -15,8 +14,8 @@ use Rattle.format.proofs.Strings.{nil-of, not-empty}
 use Rattle.image.specs.Laying.{OwnerFits, On}
 use Rattle.image.proofs.Drafts.{start, put, put_byte, gap, ends}
 use Rattle.image.proofs.OwnerForms.{low-alternate, alternate-packed, held-short}
-use Rattle.image.proofs.basic.put_owner.Statement.{statement}
-use Rattle.image.proofs.basic.put_owner.Tie as tie
+use Rattle.image.proofs.basic.put_owner.Goals.{Else-owner-eq0}
+use Rattle.image.proofs.basic.put_owner.Goals as goal
 
 module _ {o d : List ℕ} (p : OwnerFits o d) where
   abbrev w : ℕ
@@ -62,41 +61,31 @@ module _ {o d : List ℕ} (p : OwnerFits o d) where
       other : (d' : List ℕ) (r : ℕ) → Stored d 23 o r d' → Ended d'
       other d' r n = packs d' r (rw (alternate-packed o a) (put two o d' r (omega (arith, n.0, fits)) n))
 
-returns : tie.Need-returns
-returns c = let s = c.before.before.before in marked s.requires.0 (not_t _ (sym s.requires.1 ∙ c.if1.true))
+pub returns-then-behind : goal.returns-then-behind
+returns-then-behind c = marked c.requires.0 (not_t _ (sym c.requires.1 ∙ c.if-behind.true))
 
-returns-2 : tie.Need-returns-2
-returns-2 c = none c.before.before.before.before.requires.0 c.if2.true
-
-abbrev at-start : tie.Else2 → tie.Start
-at-start c = c.before.before.before.before
+pub returns-then-owner-eq0 : goal.returns-then-owner-eq0
+returns-then-owner-eq0 c = none c.requires.0 c.if-owner-eq0.true
 
 -- block 1 does not hold the owner
-basic : (c : tie.Else2) → let a = (at-start c).args in is_empty a.owner.now || basic_owner (owner_width (length a.draft.now)) a.owner.now ≡ true
-basic c = not_f _ (sym (at-start c).requires.1 ∙ c.before.if1.false)
+basic : (c : Else-owner-eq0) → let a = c.args in is_empty a.owner.now || basic_owner (owner_width (length a.draft.now)) a.owner.now ≡ true
+basic c = not_f _ (sym c.requires.1 ∙ c.if-behind.false)
 
-low : (c : tie.Then3) → alternate (at-start c.before.before).args.owner.now ≡ true
-low c = let e = c.before.before in low-alternate _ (at-start e).requires.0.good e.if2.false c.if3.true
+pub put_bytes-requires : goal.put_bytes-requires
+put_bytes-requires c =
+    let e = (goal.at.put_bytes-requires c).Else-owner-eq0 in
+    fits c.requires.0 c.if-owner-eq0.false (basic e) (low-alternate _ c.requires.0.good c.if-owner-eq0.false c.if-owner-lt4.true)
 
-put-bytes-requires : tie.Need-put-bytes-requires
-put-bytes-requires c κs = let t = c.before in let e = t.before.before in fits (at-start e).requires.0 e.if2.false (basic e) (low t)
+pub returns-then-owner-lt4 : goal.returns-then-owner-lt4
+returns-then-owner-lt4 c =
+    let e = (goal.at.returns-then-owner-lt4 c).Else-owner-eq0 in
+    other c.requires.0 c.if-owner-eq0.false (basic e) (low-alternate _ c.requires.0.good c.if-owner-eq0.false c.if-owner-lt4.true) _ _ c.put_bytes.ensures
 
-returns-3 : tie.Need-returns-3
-returns-3 c =
-    let t = c.before.before.before.before in
-    let e = t.before.before in other (at-start e).requires.0 e.if2.false (basic e) (low t) _ _ c.before.before.put-bytes.ensures
+pub put_isil-requires : goal.put_isil-requires
+put_isil-requires c =
+    let e = (goal.at.put_isil-requires c).Else-owner-eq0 in
+    let p = c.requires.0 in
+    record { field = p; high = c.if-owner-lt4.false; held = held p c.if-owner-eq0.false (basic e) }
 
-put-isil-requires : tie.Need-put-isil-requires
-put-isil-requires c κs =
-    let e = c.before.before.before in
-    let p = (at-start e).requires.0 in
-    record { field = p; high = c.before.if3.false; held = held p e.if2.false (basic e) }
-
-returns-4 : tie.Need-returns-4
-returns-4 c = let e = c.before.before.before.before.before.before in isil (at-start e).requires.0 e.if2.false (basic e) _ c.before.before.put-isil.ensures
-
-pub put-owner-spec : {M : Type 1} → statement M
-put-owner-spec =
-    tie.close
-    (tie.spec (λ c. search rules) (λ c. search rules) returns returns-2 (λ c. search rules) put-bytes-requires (λ c. search rules) returns-3 put-isil-requires
-    (λ c. search rules) returns-4)
+pub returns : goal.returns
+returns c = let e = (goal.at.returns c).Else-owner-eq0 in isil c.requires.0 c.if-owner-eq0.false (basic e) _ c.put_isil.ensures

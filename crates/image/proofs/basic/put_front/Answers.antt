@@ -4,7 +4,6 @@ use Prim.Native.Nat.{ℕ, ◌+◌, ◌-◌, ◌*◌, ◌/◌, ◌≤◌, ◌<◌
 use native.Mathlib.Omega.{arith}
 use mathlib.Core.List.{List, [], ◌∷◌, ◌++◌}
 use lib.ListN.{length, get_or, set, length-set}
-use borrow.Author.Rules.{rules}
 use borrow.Author.Tests.{le-leb, lt-leb}
 use Rattle.format.specs.Bytes.{if◌then◌else◌, pad_with, pad}
 use Rattle.format.specs.Fields.{marker, long, item_field}
@@ -12,8 +11,7 @@ use Rattle.format.specs.Layout.{first_byte}
 use Rattle.format.specs.Pieces.{Stored}
 use Rattle.image.specs.Laying.{Blank, On}
 use Rattle.image.proofs.Drafts.{start, put, put_byte, gap, ends}
-use Rattle.image.proofs.basic.put_front.Statement.{statement}
-use Rattle.image.proofs.basic.put_front.Tie as tie
+use Rattle.image.proofs.basic.put_front.Goals as goal
 
 module _ (d item info : List ℕ) (usage : ℕ) (blank : Blank 0 d) (room : 19 ≤ length d) where
   abbrev main : ℕ
@@ -45,34 +43,22 @@ module _ (d item info : List ℕ) (usage : ℕ) (blank : Blank 0 d) (room : 19 �
   unmarked : (d' : List ℕ) (r : ℕ) → length item ≤ 16 → Stored d₃ 3 item r d' → Ended d'
   unmarked d' r h e = ended item d' r (rw (lt-leb 17 (length item) (omega arith))) h (put begun item d' r (omega (arith, e.0)) e)
 
-slice-write-draft-2 : tie.Need-slice-write-draft-2
-slice-write-draft-2 c = simp length-set (omega arith)
+pub bounds-draft-1 : goal.bounds-draft-1
+bounds-draft-1 c = simp length-set (omega arith)
 
-slice-write-draft-3 : tie.Need-slice-write-draft-3
-slice-write-draft-3 c = simp length-set (omega arith)
+pub bounds-draft-2 : goal.bounds-draft-2
+bounds-draft-2 c = simp length-set (omega arith)
 
-slice-write-draft-4 : tie.Need-slice-write-draft-4
-slice-write-draft-4 c = simp length-set (omega arith)
+pub bounds-draft-3 : goal.bounds-draft-3
+bounds-draft-3 c = simp length-set (omega arith)
 
-returns : tie.Need-returns
+pub returns-then-item-gt16 : goal.returns-then-item-gt16
+returns-then-item-gt16 c =
+    let a = c.args in marked a.draft.now a.item.now a.set.now a.usage c.requires.0 c.requires.1 c.if-item-gt16.true
+
+pub put_bytes-requires : goal.put_bytes-requires
+put_bytes-requires c = simp length-set (omega arith)
+
+pub returns : goal.returns
 returns c =
-    let s = c.before.before.before.before.before.before in
-    let a = s.args in marked a.draft.now a.item.now a.set.now a.usage s.requires.0 s.requires.1 c.if1.true
-
-put-bytes-requires : tie.Need-put-bytes-requires
-put-bytes-requires c κs = simp length-set (omega arith)
-
-same-length-2 : tie.Need-same-length-2
-same-length-2 c = simp length-set at c.before.draft.given
-
-returns-2 : tie.Need-returns-2
-returns-2 c =
-    let e = c.before.before.before.before in
-    let s = e.before.before.before.before.before.before in
-    let a = s.args in unmarked a.draft.now a.item.now a.set.now a.usage s.requires.0 s.requires.1 _ _ e.if1.false c.before.before.put-bytes.ensures
-
-pub put-front-spec : {M : Type 1} → statement M
-put-front-spec =
-    tie.close
-    (tie.spec (λ c. search rules) (λ c. search rules) (λ c. search rules) (λ c. search rules) slice-write-draft-2 (λ c. search rules) slice-write-draft-3
-    slice-write-draft-4 (λ c. search rules) returns put-bytes-requires same-length-2 returns-2)
+    let a = c.args in unmarked a.draft.now a.item.now a.set.now a.usage c.requires.0 c.requires.1 _ _ c.if-item-gt16.false c.put_bytes.ensures

@@ -4,15 +4,13 @@ use Prim.Native.Nat.{ℕ, ◌+◌}
 use native.Mathlib.Omega.{arith}
 use mathlib.Core.List.{List, ◌∷◌}
 use lib.ListN.{length}
-use borrow.Author.Rules.{rules}
 use Rattle.format.specs.Bytes.{trim}
 use Rattle.format.specs.Chain.{separated, block_with}
 use Rattle.format.proofs.Blocks.{sealed-length}
 use Rattle.format.proofs.Strings.{nil-of, trim-some, trim-other}
 use Rattle.image.specs.Laying.{Lengths, fields_size}
 use Rattle.image.proofs.Contents.{separated-size}
-use Rattle.image.proofs.sizes.block_size.Statement.{statement}
-use Rattle.image.proofs.sizes.block_size.Tie as tie
+use Rattle.image.proofs.sizes.block_size.Goals as goal
 
 -- a block that has something
 some : {p : List ℕ} (x : ℕ) (r : List ℕ) → p ≡ x ∷ r → length (block_with 1 p) ≡ length r + 5
@@ -34,14 +32,11 @@ module _ {lens : List ℕ} (n : ℕ) (e : n ≡ fields_size lens) (fs : List (Li
   unfolding block_with trim
   nothing m z h = rw (h, nil-of (separated fs) (long ∙ z))
 
-returns : tie.Need-returns
-returns c fs l = let s = c.before in fielded _ s.fields-size.ensures.0 fs l _ c.if1.true
+pub returns-then-fields-ne0 : goal.returns-then-fields-ne0
+returns-then-fields-ne0 c fs l = fielded _ c.fields_size-fields.ensures.0 fs l _ c.if-fields-ne0.true
 
-returns-2 : tie.Need-returns-2
-returns-2 c fs l = let s = c.before.before in alone _ s.fields-size.ensures.0 fs l _ c.before.if1.false c.if2.true
+pub returns-then-media-ne0 : goal.returns-then-media-ne0
+returns-then-media-ne0 c fs l = alone _ c.fields_size-fields.ensures.0 fs l _ c.if-fields-ne0.false c.if-media-ne0.true
 
-returns-3 : tie.Need-returns-3
-returns-3 c fs l = let s = c.before.before in nothing _ s.fields-size.ensures.0 fs l _ c.before.if1.false c.if2.false
-
-pub block-size-spec : {M : Type 1} → statement M
-block-size-spec = tie.close (tie.spec (λ c κs. search rules) (λ c. omega (arith, c.before.fields-size.ensures.1)) returns returns-2 returns-3)
+pub returns : goal.returns
+returns c fs l = nothing _ c.fields_size-fields.ensures.0 fs l _ c.if-fields-ne0.false c.if-media-ne0.false
