@@ -80,7 +80,7 @@ digits-behind {j} {n} {a} h (c ∷ s) e =
     let high : c - 0x30 ≤ 9 = omega (arith, range) in
     let back : 0x30 + (c - 0x30) ≡ c = omega (arith, range) in
     let one : Digits (suc j) (10 * n + (c - 0x30)) (a ++ ((0x30 + (c - 0x30)) ∷ [])) = more h high in
-    let next = digits-behind (rw back at one) s (and_r (digit c) (all digit s) e) in
+    let next = digits-behind {j = suc j} (rw back at one) s (and_r (digit c) (all digit s) e) in
     let count : suc j + length s ≡ j + suc (length s) = omega arith in
     rw count at (rw (append_assoc a (c ∷ []) s) at next)
 

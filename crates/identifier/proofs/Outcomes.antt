@@ -7,7 +7,6 @@ use lib.ListN.{length}
 use lib.Dec.{leb}
 use borrow.Author.Tests.{le-leb, lt-leb, leb-true, leb-false}
 use Rattle.format.specs.Answers.{Answer, got, refused, plain, in_order}
-use Rattle.format.specs.declared.NumberAnswer as number
 use Rattle.format.proofs.Answers.{next-ok, next-no, none-ok, afterwards-got, afterwards-refused}
 use Rattle.format.proofs.Tests.{never, and_l, and_r, and_i, and_left, and_no}
 use Rattle.words.proofs.Cases.{decide}
