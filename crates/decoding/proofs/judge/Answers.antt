@@ -6,11 +6,8 @@ use Rattle.format.specs.Bytes.{all}
 use Rattle.words.specs.Code40.{meaningful, text_of}
 use Rattle.words.specs.Calls.{decode_steps}
 use Rattle.words.proofs.Outcomes.{answer-bad, answer-short, answer-good}
-use Rattle.decoding.proofs.Judging.{judging-start, judging-on, judging-not, judging-all}
+use Rattle.decoding.proofs.Judging.{judging-on, judging-not, judging-all}
 use Rattle.decoding.proofs.judge.Goals as goal
-
-pub loop-i-init : goal.loop-i-init
-loop-i-init c = judging-start _
 
 pub returns-then-k-eq0 : goal.returns-then-k-eq0
 unfolding decode_steps
@@ -18,10 +15,6 @@ returns-then-k-eq0 c =
     let a = c.args in
     let ws = a.words.now in
     sym (answer-bad 20 (all meaningful ws) a.room (text_of ws) (judging-not c.loop-i.invariant c.loop-i-test.true c.count_characters-k.ensures.0 c.if-k-eq0.true))
-
--- three characters a word at most, and the words fit the memory
-pub overflow_add-n : goal.overflow_add-n
-overflow_add-n c = omega (arith, c.count_characters-k.ensures.1)
 
 pub loop-i-preserved : goal.loop-i-preserved
 loop-i-preserved c =

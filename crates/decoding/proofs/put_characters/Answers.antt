@@ -2,17 +2,11 @@
 use native.Mathlib.Omega.{arith}
 use lib.ListN.{length-set}
 use Rattle.words.proofs.Words.{low-range, high-range}
-use Rattle.decoding.proofs.Meaning.{first-value, room-one, room-two, room-three, put-held, put_one, put_two, put_three}
+use Rattle.decoding.proofs.Meaning.{first-value, room-two, room-three, put-held, put_one, put_two, put_three}
 use Rattle.decoding.proofs.put_characters.Goals as goal
 
 pub overflow_cast-text : goal.overflow_cast-text
 overflow_cast-text c = omega (arith, high-range c.args.w c.requires.1)
-
-pub bounds-text-at : goal.bounds-text-at
-bounds-text-at c =
-    let a = c.args in
-    let p = c.requires in
-    room-one a.w p.1 a.text.now a.at p.2
 
 pub returns-then-w-ge64512 : goal.returns-then-w-ge64512
 returns-then-w-ge64512 c =
@@ -29,12 +23,6 @@ character-requires c =
     let p = c.requires in
     let v = first-value a.w p.1 c.if-w-ge64512.false in
     (p.0, v.0, v.1)
-
-pub bounds-text-at-2 : goal.bounds-text-at-2
-bounds-text-at-2 c =
-    let a = c.args in
-    let p = c.requires in
-    room-one a.w p.1 a.text.now a.at p.2
 
 pub returns-then-b-eq0 : goal.returns-then-b-eq0
 returns-then-b-eq0 c =

@@ -1,7 +1,7 @@
 -- `put_text`: the text of the words passed is stored, and the buffer keeps its length.
 use Rattle.format.proofs.Passing.{passed-at}
 use Rattle.words.specs.Code40.{meaningful}
-use Rattle.decoding.proofs.Putting.{putting-start, room_at, putting-on, putting-all}
+use Rattle.decoding.proofs.Putting.{putting-start, room_at, putting-on}
 use Rattle.decoding.proofs.put_text.Goals as goal
 
 pub loop-i-init : goal.loop-i-init
@@ -17,9 +17,3 @@ pub loop-i-preserved : goal.loop-i-preserved
 loop-i-preserved c =
     let room = c.requires.2 in
     putting-on c.loop-i.invariant c.loop-i-test.true room _ _ c.put_characters-end.ensures
-
-pub shape_of-text : goal.shape_of-text
-shape_of-text c = c.loop-i.invariant.kept
-
-pub returns : goal.returns
-returns c = putting-all c.loop-i.invariant c.loop-i-test.false

@@ -2,12 +2,9 @@
 use mathlib.Core.Path.{sym}
 use borrow.Author.Tests.{le-leb, lt-leb}
 use Rattle.format.proofs.Answers.{need-ok, need-no}
-use Rattle.format.proofs.Passing.{passing-start, passing-on, passing-not, passing-all}
+use Rattle.format.proofs.Passing.{passing-on, passing-not, passing-all}
 use Rattle.words.specs.Code40.{is646}
 use Rattle.encoding.proofs.character_stage.Goals as goal
-
-pub loop-i-init : goal.loop-i-init
-loop-i-init c = passing-start is646 c.args.text.now
 
 pub returns-then-text-i-gt127 : goal.returns-then-text-i-gt127
 returns-then-text-i-gt127 c =

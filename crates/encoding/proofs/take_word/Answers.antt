@@ -1,15 +1,8 @@
 -- Each way out is a case of the rule.
 use mathlib.Core.Path.{sym, ◌∙◌}
-use native.Mathlib.Omega.{arith}
 use Rattle.encoding.proofs.Places.{valued}
 use Rattle.encoding.proofs.Taking.{takes-held, takes_one, takes_two, takes-three}
 use Rattle.encoding.proofs.take_word.Goals as goal
-
-pub overflow_cast-result : goal.overflow_cast-result
-overflow_cast-result c = omega (arith, c.type_inv.text c.args.at)
-
-pub overflow_add-result : goal.overflow_add-result
-overflow_add-result c = omega (arith, c.type_inv.text c.args.at)
 
 pub returns-then-a-eq0 : goal.returns-then-a-eq0
 returns-then-a-eq0 c =

@@ -1,20 +1,12 @@
 -- The table has the value of each character; behind the end there is none.
 use mathlib.Core.Path.{sym}
-use native.Mathlib.Omega.{arith}
 use borrow.Author.Rules.{rules}
 use Rattle.encoding.proofs.Places.{low-at, found_at, none-behind}
 use Rattle.encoding.proofs.value_at.Goals as goal
 
-pub overflow_cast-result : goal.overflow_cast-result
-overflow_cast-result c = omega (arith, c.type_inv.text c.args.i)
-
 pub bounds-values-text : goal.bounds-values-text
 bounds-values-text c =
     low-at c.args.text.now c.args.i c.requires.1 c.if-i-text.true
-
-pub overflow_cast-result-then-i-text : goal.overflow_cast-result-then-i-text
-overflow_cast-result-then-i-text c =
-    omega (arith, (found_at c.args.values.now c.args.text.now c.args.i c.requires.0 c.requires.1 c.if-i-text.true).1)
 
 pub returns-then-i-text : goal.returns-then-i-text
 returns-then-i-text c =

@@ -1,10 +1,7 @@
 -- The invariant: whether the bytes before `i` are other than a dot decides, with those from `i` on. The measure is what is left.
 use mathlib.Core.Path.{refl}
-use Rattle.format.proofs.Passing.{before-start, before_on, before-all}
+use Rattle.format.proofs.Passing.{before_on, before-all}
 use Rattle.identifier.proofs.is_dotless.Goals as goal
-
-pub loop-i-init : goal.loop-i-init
-loop-i-init c = before-start _ c.args.s.now
 
 pub loop-i-preserved : goal.loop-i-preserved
 loop-i-preserved c =
