@@ -5,15 +5,14 @@ use native.Mathlib.Omega.{arith}
 use mathlib.Core.Bool.{true, false}
 use mathlib.Core.List.{List}
 use borrow.Author.Rules.{rules}
-use borrow.Author.Tests.{not-true, not-false}
 use Rattle.format.specs.Answers.{plain, got, refused}
 use Rattle.format.specs.Sheet.{entries_in, right_sheet, good_values}
 use Rattle.format.specs.declared.NumberAnswer.TheVariants.{Done, Refused}
 use Rattle.format.proofs.Answers.{next-ok, next-no, none-ok, afterwards-got, afterwards-refused}
 use Rattle.sheet.specs.Scanning.{carried_at, ats_in, lens_in, scanning, Scanned}
 use Rattle.sheet.proofs.Heads.{right-body, right_of}
-use Rattle.sheet.proofs.scan.Statement.{statement}
-use Rattle.sheet.proofs.scan.Tie as tie
+use Rattle.sheet.proofs.scan.Goals.{Else-not-right}
+use Rattle.sheet.proofs.scan.Goals as goal
 
 module _ (s ats lens : List ℕ) where
   stopped : (k : ℕ) → scanning s ≡ refused (plain k) → Scanned s ats lens (Refused k) ats lens
@@ -39,39 +38,32 @@ module _ (s ats lens : List ℕ) where
         lens-left = f.2 ∙ sym (afterwards-got _ (carried_at s) (lens_in s) lens is);
       }
 
-returns : tie.Need-returns
-returns c =
-    let a = c.before.before.before.args in
-    wrong a.sheet.now a.ats.now a.lens.now (sym c.before.right.ensures ∙ not-true _ c.if1.true)
+pub returns-then-not-right : goal.returns-then-not-right
+returns-then-not-right c =
+    let a = c.args in
+    wrong a.sheet.now a.ats.now a.lens.now (sym c.right.ensures ∙ c.if-not-right.true)
 
 -- past the first test the sheet is right
-is_right : (c : tie.Else1) → right_sheet c.before.before.before.args.sheet.now ≡ true
-is_right c = sym c.before.right.ensures ∙ not-false _ c.if1.false
+is_right : (c : Else-not-right) → right_sheet c.args.sheet.now ≡ true
+is_right c = sym c.right.ensures ∙ c.if-not-right.false
 
-count-requires : tie.Need-count-requires
-count-requires c κs = omega (arith, right-body c.before.before.before.args.sheet.now (is_right c))
+pub count-count-requires : goal.count-count-requires
+count-count-requires c = omega (arith, right-body c.args.sheet.now (is_right c))
 
-good-values-requires : tie.Need-good-values-requires
-good-values-requires c κs = right_of c.before.before.before.before.args.sheet.now c.count.result (is_right c.before) c.count.ensures.0
+pub good_values-requires : goal.good_values-requires
+good_values-requires c =
+    right_of c.args.sheet.now c.count-count.result (is_right (goal.at.good_values-requires c).Else-not-right) c.count-count.ensures.0
 
-returns-2 : tie.Need-returns-2
-returns-2 c =
-    let r = c.before.before.before in
-    let a = r.before.before.before.args in
-    bad a.sheet.now a.ats.now a.lens.now (is_right r) (sym c.before.good-values.ensures ∙ not-true _ c.if2.true)
+pub returns-then-not-good_values : goal.returns-then-not-good_values
+returns-then-not-good_values c =
+    let a = c.args in
+    bad a.sheet.now a.ats.now a.lens.now (is_right (goal.at.returns-then-not-good_values c).Else-not-right) (sym c.good_values.ensures ∙ c.if-not-good_values.true)
 
-fill-row-requires : tie.Need-fill-row-requires
-fill-row-requires c κs =
-    let n = c.before.before.before.before in
-    (right_of n.before.before.before.before.args.sheet.now n.count.result (is_right n.before) n.count.ensures.0, search rules, search rules)
+pub fill_row-requires : goal.fill_row-requires
+fill_row-requires c =
+    (right_of c.args.sheet.now c.count-count.result (is_right (goal.at.fill_row-requires c).Else-not-right) c.count-count.ensures.0, search rules, search rules)
 
-returns-3 : tie.Need-returns-3
-returns-3 c =
-    let v = c.before.before.before in
-    let r = v.before.before.before in
-    let a = r.before.before.before.args in
-    good a.sheet.now a.ats.now a.lens.now (is_right r) (sym v.before.good-values.ensures ∙ not-false _ v.if2.false) _ _ _ c.fill-row.ensures
-
-pub scan-spec : {M : Type 1} → statement M
-scan-spec =
-    tie.close (tie.spec (λ c κs. search rules) returns count-requires good-values-requires returns-2 fill-row-requires returns-3)
+pub returns : goal.returns
+returns c =
+    let a = c.args in
+    good a.sheet.now a.ats.now a.lens.now (is_right (goal.at.returns c).Else-not-right) (sym c.good_values.ensures ∙ c.if-not-good_values.false) _ _ _ c.fill_row.ensures
