@@ -11,7 +11,7 @@ ghost use Rattle.fields.specs.declared.OwnerField.TheVariants as owner;
 ghost use Rattle.fields.specs.Forms.{item_form, owner_form, library_form, item_given, owner_given, library_given};
 
 // What a good item field of the basic block holds: the marker 01, or text of `len` bytes, 0 for nothing.
-#[derive(Drop)]
+#[derive(Clone, Copy, Drop)]
 pub struct ItemParts {
     pub marked: bool,
     pub len: usize,
@@ -26,7 +26,7 @@ pub enum ItemField {
 
 // What a good owner field of the basic block holds: the marker; or an ISIL, a prefix of `prefix` bytes and a unit of `isil` bytes from the
 // third byte on; or an alternative owner of `alternative` bytes from the third byte on; or nothing.
-#[derive(Drop)]
+#[derive(Clone, Copy, Drop)]
 pub struct OwnerParts {
     pub marked: bool,
     pub prefix: usize,
@@ -42,7 +42,7 @@ pub enum OwnerField {
 }
 
 // Block 1's fields: the media and usage bytes, 00 where missing, and the lengths of the item and owner fields, 0 where missing.
-#[derive(Drop)]
+#[derive(Clone, Copy, Drop)]
 pub struct LibraryParts {
     pub media: u8,
     pub item: usize,

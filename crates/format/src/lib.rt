@@ -60,7 +60,7 @@ pub fn answer_number(answer: NumberAnswer) -> u32
 }
 
 // Where some bytes stand in a slice: `len` of them from `at`.
-#[derive(Drop)]
+#[derive(Clone, Copy, Drop)]
 pub struct Part {
     pub at: usize,
     pub len: usize,
