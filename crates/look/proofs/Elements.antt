@@ -12,7 +12,7 @@ use borrow.Author.Tests.{eqb-false}
 use Rattle.format.specs.declared.Part.{Part}
 use Rattle.format.specs.Bytes.{if◌then◌else◌, is_empty, part, bytes, filled}
 use Rattle.format.specs.Pieces.{from, nowhere, Held}
-use Rattle.format.specs.Fields.{hyphen, alternate, marked, owner_said}
+use Rattle.format.specs.Fields.{hyphen, alternate, owner_said}
 use Rattle.format.specs.Chain.{block_of}
 use Rattle.format.specs.Elements.{set_bytes}
 use Rattle.format.specs.Reading.{item_in, owner_in, blocks_in, library_on, agree, owner_on, content_in}

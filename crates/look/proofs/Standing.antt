@@ -82,8 +82,12 @@ module _ (t m : List ℕ) where
   pub holds_row : (ps : List Part) (ss : List (List ℕ)) → Holds t m ps ss → Row t m (map (λ (p : Part). p.at) ps) (map (λ (p : Part). p.len) ps)
   holds_row [] [] done = none
   holds_row (p ∷ ps) (s ∷ ss) (more l h) = next l.stands (holds_row ps ss h)
+  holds_row [] (s ∷ ss) w = elim w [ ]
+  holds_row (p ∷ ps) [] w = elim w [ ]
 
   pub holds-slots : (ps : List Part) (ss : List (List ℕ)) → Holds t m ps ss → slots_at (t ++ m) (map (λ (p : Part). p.at) ps) (map (λ (p : Part). p.len) ps) ≡ ss
   unfolding slots_at
   holds-slots [] [] done = refl
   holds-slots (p ∷ ps) (s ∷ ss) (more l h) = ap₂ (λ (x : List ℕ) (y : List (List ℕ)). x ∷ y) l.is (holds-slots ps ss h)
+  holds-slots [] (s ∷ ss) w = elim w [ ]
+  holds-slots (p ∷ ps) [] w = elim w [ ]
