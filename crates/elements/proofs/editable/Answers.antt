@@ -3,14 +3,9 @@ use mathlib.Core.Path.{◌≡◌, sym, ap, ◌∙◌}
 use mathlib.Core.Bool.{true, not}
 use borrow.Author.Tests.{eq-eqb, ne_eqb}
 use Rattle.format.specs.Elements.{known}
-use Rattle.elements.proofs.Numbers.{unknown-refused, removing, setting}
+use Rattle.elements.proofs.Numbers.{removing, setting}
 use Rattle.elements.proofs.editable.Goals.{Else-not-known}
 use Rattle.elements.proofs.editable.Goals as goal
-
-pub returns-then-not-known : goal.returns-then-not-known
-returns-then-not-known c =
-    let a = c.args in
-    unknown-refused a.number a.bytes.now (sym c.known.ensures ∙ c.if-not-known.true)
 
 -- the number is known
 is_known : (c : Else-not-known) → known c.args.number ≡ true
