@@ -17,17 +17,14 @@ first c = c.dot_from-end.ensures ∙ c.skip_dotless.ensures.first
 pub returns-then-dot_from-text : goal.returns-then-dot_from-text
 returns-then-dot_from-text c =
     let k = (goal.at.returns-then-dot_from-text c).After-dot_from-end in
-    let s = k in
-    cut-two s.args.text.now s.args.item k.dot_from-end.result s.requires (first k) c.dot_from.result c.if-end-text.true c.dot_from.ensures c.if-dot_from-text.true
+    cut-two k.args.text.now k.args.item k.dot_from-end.result k.requires (first k) c.dot_from.result c.if-end-text.true c.dot_from.ensures c.if-dot_from-text.true
 
 pub returns-else-dot_from-text : goal.returns-else-dot_from-text
 returns-else-dot_from-text c =
     let k = (goal.at.returns-else-dot_from-text c).After-dot_from-end in
-    let s = k in
-    cut-one s.args.text.now s.args.item k.dot_from-end.result s.requires (first k) c.dot_from.result c.if-end-text.true c.dot_from.ensures c.if-dot_from-text.false
+    cut-one k.args.text.now k.args.item k.dot_from-end.result k.requires (first k) c.dot_from.result c.if-end-text.true c.dot_from.ensures c.if-dot_from-text.false
 
 pub returns-else-end-text : goal.returns-else-end-text
 returns-else-end-text c =
     let k = (goal.at.returns-else-end-text c).After-dot_from-end in
-    let s = k in
-    cut-alone s.args.text.now s.args.item k.dot_from-end.result s.requires (first k) c.if-end-text.false
+    cut-alone k.args.text.now k.args.item k.dot_from-end.result k.requires (first k) c.if-end-text.false

@@ -1,4 +1,4 @@
--- The invariant: from `at` to `i` there is no dot. The measure is what is left.
+-- The dot is found where the loop ends; a turn passes a byte that is no dot.
 use Rattle.parting.proofs.Seeking.{skips-one, found, found_none}
 use Rattle.parting.proofs.places.dot_from.Goals as goal
 

@@ -1,4 +1,4 @@
--- The invariant: the bytes before `i` are digits. The measure is what is left.
+-- A byte that is no digit ends the loop; a turn passes a digit.
 use mathlib.Core.Path.{sym, ◌∙◌}
 use Rattle.format.proofs.Passing.{passing-on, passing-not, passing-all}
 use Rattle.identifier.specs.SetDigits.{digit}

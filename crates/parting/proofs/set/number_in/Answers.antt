@@ -1,4 +1,4 @@
--- The invariant: the digits before `i` say `n`. The measure is what is left.
+-- Three digits at most stay small; a turn takes one digit more.
 use native.Mathlib.Omega.{arith}
 use Rattle.parting.proofs.Numbers.{reading-starts, reading-few, digit-range, reading-on, reading-ends}
 use Rattle.parting.proofs.set.number_in.Goals as goal
