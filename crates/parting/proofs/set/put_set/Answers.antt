@@ -3,19 +3,17 @@ use mathlib.Core.Path.{◌≡◌, refl, ap₂}
 use Prim.Native.Nat.{ℕ, ◌≤◌}
 use native.Mathlib.Omega.{arith}
 use mathlib.Core.List.{List, [], ◌∷◌, ◌++◌}
-use borrow.Author.Rules.{rules}
 use lib.ListN.{length, set, length-set}
 use Rattle.format.specs.Elements.{set_bytes}
 use Rattle.format.specs.Pieces.{Stored}
 use Rattle.format.proofs.Strings.{le16-byte}
-use Rattle.parting.proofs.set.put_set.Statement.{statement}
-use Rattle.parting.proofs.set.put_set.Tie as tie
+use Rattle.parting.proofs.set.put_set.Goals as goal
 
-slice-write-set-2 : tie.Need-slice-write-set-2
-slice-write-set-2 c = simp length-set (omega arith)
+pub bounds-set-1 : goal.bounds-set-1
+bounds-set-1 c = simp length-set (omega arith)
 
-slice-write-set-3 : tie.Need-slice-write-set-3
-slice-write-set-3 c = simp length-set (omega arith)
+pub bounds-set-2 : goal.bounds-set-2
+bounds-set-2 c = simp length-set (omega arith)
 
 two-numbers : (t o : ℕ) → t ≤ 255 → o ≤ 255 → set_bytes t o ≡ t ∷ 0 ∷ o ∷ 0 ∷ []
 two-numbers t o ht ho = ap₂ (λ (x y : List ℕ). x ++ y) (le16-byte t ht) (le16-byte o ho)
@@ -27,8 +25,5 @@ four-set (a ∷ b ∷ []) t o h ht ho = absurd (omega arith)
 four-set (a ∷ b ∷ c ∷ []) t o h ht ho = absurd (omega arith)
 four-set (a ∷ b ∷ c ∷ d ∷ s) t o h ht ho = rw (two-numbers t o ht ho) (refl, refl)
 
-returns : tie.Need-returns
+pub returns : goal.returns
 returns c = four-set c.args.set.now c.args.total c.args.ordinal c.requires (omega arith) (omega arith)
-
-pub put-set-spec : {M : Type 1} → statement M
-put-set-spec = tie.close (tie.spec (λ c. search rules) slice-write-set-2 slice-write-set-3 (λ c. search rules) (λ c. search rules) returns)

@@ -4,13 +4,11 @@ use Prim.Native.Nat.{ℕ}
 use native.Mathlib.Omega.{arith}
 use mathlib.Core.Bool.{false, and-true}
 use mathlib.Core.List.{List, [], ◌∷◌}
-use borrow.Author.Rules.{rules}
 use lib.Dec.{eqb}
 use lib.ListN.{length, get_or}
 use Rattle.format.specs.Bytes.{same}
 use Rattle.format.proofs.Tests.{and_no}
-use Rattle.parting.proofs.set.is_s.Statement.{statement}
-use Rattle.parting.proofs.set.is_s.Tie as tie
+use Rattle.parting.proofs.set.is_s.Goals as goal
 
 not-one : (b : ℕ) (s : List ℕ) → (length s ≡ 1 → ⊥) → same s (b ∷ []) ≡ false
 unfolding same
@@ -24,11 +22,8 @@ one b [] h = absurd (omega arith)
 one b (x ∷ []) h = and-true (eqb x b)
 one b (x ∷ y ∷ s) h = absurd (omega arith)
 
-returns : tie.Need-returns
-returns c = sym (not-one 0x53 c.before.args.part.now c.if1.true)
+pub returns-then-part-ne1 : goal.returns-then-part-ne1
+returns-then-part-ne1 c = sym (not-one 0x53 c.args.part.now c.if-part-ne1.true)
 
-returns-2 : tie.Need-returns-2
-returns-2 c = sym (one 0x53 c.before.before.args.part.now c.before.if1.false)
-
-pub is-s-spec : {M : Type 1} → statement M
-is-s-spec = tie.close (tie.spec returns (λ c. search rules) returns-2)
+pub returns : goal.returns
+returns c = sym (one 0x53 c.args.part.now c.if-part-ne1.false)
