@@ -1,13 +1,14 @@
 -- The loop that counts characters: what it knows at each turn, and how a turn keeps it.
 use mathlib.Core.Path.{◌≡◌, sym, ap, ◌∙◌}
 use Prim.Native.Nat.{ℕ, ◌+◌, ◌*◌, ◌≤◌, ◌<◌}
+use native.Mathlib.Nat.{zero-add}
 use native.Mathlib.Omega.{arith}
 use mathlib.Core.Bool.{true, false, not}
 use mathlib.Core.List.{List, ◌++◌}
 use lib.ListN.{length, drop, get_or, length-append, drop_of_length-le}
 use Rattle.format.specs.Bytes.{all}
 use Rattle.format.proofs.Strings.{is-empty, not-empty, rest-opened}
-use Rattle.format.proofs.Passing.{Passing, passing-on, passing-not, passing-all}
+use Rattle.format.proofs.Passing.{Passing, passing-start, passing-on, passing-not, passing-all}
 use Rattle.words.specs.Code40.{characters_of, meaningful, text_of}
 
 -- the words before i have a meaning, and n characters; these are so few that their number fits
@@ -15,6 +16,9 @@ pub record Judging (ws : List ℕ) (i n : ℕ) : Type 0 where
   pub meant : Passing meaningful ws i
   pub few : n ≤ 3 * i
   pub counted : n + length (text_of (drop i ws)) ≡ length (text_of ws)
+
+pub judging-start : (ws : List ℕ) → Judging ws 0 0
+judging-start ws = record { meant = passing-start meaningful ws; few = omega arith; counted = zero-add (length (text_of ws)) }
 
 -- the text of what is left
 pub text_at : (ws : List ℕ) (i : ℕ) → i < length ws → text_of (drop i ws) ≡ characters_of (get_or ws i 0) ++ text_of (drop (i + 1) ws)

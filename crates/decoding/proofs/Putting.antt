@@ -5,7 +5,7 @@ use native.Mathlib.Omega.{arith}
 use native.Mathlib.Numerals.{add-one}
 use mathlib.Core.List.{List, [], ◌∷◌, ◌++◌, append-nil}
 use lib.ListN.{length, take, drop, get_or, length-append, take-append-drop}
-use lib.Seq.{take-suc}
+use lib.Seq.{take-suc, take_all}
 use Rattle.format.specs.Pieces.{Stored}
 use Rattle.format.proofs.Pieces.{stored-none, stored-then, stored-as, stored-length}
 use Rattle.words.specs.Code40.{characters_of, text_of}
@@ -54,3 +54,6 @@ module _ {ws before : List ℕ} {i end : ℕ} {after : List ℕ} (p : Putting ws
         kept = stored-length after more d end r room_at s ∙ p.kept;
         text = stored-as before d _ _ 0 r (sym (text-on ws i h)) (stored-then before after d (text_of (take i ws)) more 0 end r (omega arith) p.text s);
       }
+
+pub putting-all : {ws before : List ℕ} {i end : ℕ} {after : List ℕ} → Putting ws before i end after → length ws ≤ i → Stored before 0 (text_of ws) end after
+putting-all {ws} {before} {i} {end} {after} p h = stored-as before after _ _ 0 end (ap text_of (take_all i ws h)) p.text

@@ -31,6 +31,9 @@ form-long n s h = sym (and_no (shape n s) (leb (length s) 255) (lt-leb (length s
 
 -- ---- values that an edit may set
 
+pub unknown-refused : (n : ℕ) (s : List ℕ) → known n ≡ false → false ≡ known n && value n s
+unknown-refused n s e = sym (rw e)
+
 -- the table's rows that are always present
 four-or-five : (n : ℕ) → eqb n 4 || eqb n 5 ≡ required n
 unfolding all

@@ -17,6 +17,9 @@ use Rattle.encoding.specs.Walk.{marked, Table}
 pub record Marking (alphabet before : List ℕ) (i : ℕ) (values : List ℕ) : Type 0 where
   pub rest : marked (i + 1) (drop i alphabet) values ≡ marked 1 alphabet before
 
+pub marking-starts : (alphabet before : List ℕ) → Marking alphabet before 0 before
+marking-starts alphabet before = record { rest = refl }
+
 pub marking-on : {alphabet before : List ℕ} {i : ℕ} {values : List ℕ} → Marking alphabet before i values → i < length alphabet
     → Marking alphabet before (i + 1) (set values (get_or alphabet i 0) (i + 1))
 unfolding marked

@@ -1,11 +1,12 @@
 -- A text walked word by word: what the two loops keep. `Counting` counts the words, `Storing` stores them.
-use mathlib.Core.Path.{◌≡◌, sym, ap, ◌∙◌}
+use mathlib.Core.Path.{◌≡◌, refl, sym, ap, ◌∙◌}
 use Prim.Native.Nat.{ℕ, ◌+◌, ◌≤◌, ◌<◌}
+use native.Mathlib.Nat.{zero-add}
 use native.Mathlib.Omega.{arith}
 use mathlib.Core.List.{List, [], ◌∷◌, ◌++◌, append_assoc, append-nil}
 use lib.ListN.{length, drop, set, length-append, length-set, drop_of_length-le}
 use Rattle.format.specs.Pieces.{Stored}
-use Rattle.format.proofs.Pieces.{stored-then, stored-as, stored-byte}
+use Rattle.format.proofs.Pieces.{stored-none, stored-then, stored-as, stored-byte}
 use Rattle.words.specs.Code40.{packed, words_from, words_of}
 use Rattle.encoding.specs.Walk.{Takes}
 
@@ -22,6 +23,12 @@ pub record Counting (s : List ℕ) (at n : ℕ) : Type 0 where
   pub inside : at ≤ length s
   pub counted : n + length (words_of (drop at s)) ≡ length (words_of s)
 
+pub counting-starts : (s : List ℕ) → Counting s 0 0
+counting-starts s = record { few = omega arith; inside = omega arith; counted = zero-add (length (words_of s)) }
+
+pub counting-on : {s : List ℕ} {at n word next : ℕ} → Counting s at n → Takes s at word next → Counting s next (n + 1)
+counting-on j t = record { few = omega (arith, j.few, t.on); inside = t.inside; counted = omega (arith, j.counted, ap length t.is) }
+
 pub counting-ends : {s : List ℕ} {at n : ℕ} → Counting s at n → length s ≤ at → n ≡ length (words_of s)
 counting-ends {s} {at} j h = omega (arith, j.counted, ap length (none_left s at h))
 
@@ -34,6 +41,9 @@ pub record Storing (s before : List ℕ) (at n : ℕ) (after : List ℕ) : Type 
   pub kept : length after ≡ length before
   pub rest : done ++ words_of (drop at s) ≡ words_of s
   pub words : Stored before 0 done n after
+
+pub storing-starts : (s before : List ℕ) → Storing s before 0 0 before
+storing-starts s before = record { done = []; inside = omega arith; kept = refl; rest = refl; words = stored-none before 0 }
 
 module _ {s before : List ℕ} {at n : ℕ} {after : List ℕ} {word next : ℕ} (p : Storing s before at n after) (t : Takes s at word next) where
   -- the next word has its room

@@ -3,8 +3,8 @@ use mathlib.Core.Path.{◌≡◌, refl, sym, ap, ap₂, ◌∙◌}
 use Prim.Native.Nat.{ℕ, zero, suc, ◌+◌, ◌-◌, ◌/◌, ◌%◌, ◌≤◌, ◌<◌}
 use native.Mathlib.Nat.{le_of_suc-le-suc, not-suc-le-zero}
 use native.Mathlib.Omega.{arith}
-use mathlib.Core.List.{List, [], ◌∷◌, ◌++◌, append_assoc}
-use lib.ListN.{length, take, drop, set, length-set}
+use mathlib.Core.List.{List, [], ◌∷◌, ◌++◌, append_assoc, append-nil}
+use lib.ListN.{length, take, drop, set, length-set, take-append-drop}
 use Rattle.format.specs.Pieces.{Stored}
 use Rattle.identifier.specs.SetDigits.{digits}
 use Rattle.joining.proofs.Pieces.{digits-length}
@@ -16,6 +16,16 @@ pub record Putting (before : List ℕ) (at count number i n : ℕ) (after : List
   pub tail : List ℕ
   pub whole : digits count number ≡ digits i n ++ tail
   pub text : after ≡ take (at + i) before ++ (tail ++ drop (at + count) before)
+
+pub putting-start : (before : List ℕ) (at count number : ℕ) → Putting before at count number count number before
+putting-start before at count number =
+    record {
+      inside = omega arith;
+      kept = refl;
+      tail = [];
+      whole = sym (append-nil (digits count number));
+      text = sym (take-append-drop (at + count) before);
+    }
 
 -- the byte behind a front
 set_last : (o r : List ℕ) (k b : ℕ) → k < length o → set (take (suc k) o ++ r) k b ≡ take k o ++ (b ∷ r)

@@ -6,9 +6,10 @@ use mathlib.Core.Bool.{Bool, true, false}
 use mathlib.Core.List.{List, [], ◌∷◌, ◌++◌, append_assoc, append-nil}
 use lib.ListN.{length, length-append}
 use lib.Dec.{eqb}
-use borrow.Author.Tests.{ne_eqb}
+use borrow.Author.Tests.{eq-eqb, ne_eqb}
 use Rattle.format.specs.Bytes.{if◌then◌else◌, is_empty}
 use Rattle.format.specs.Elements.{parts_of, ordinal_of}
+use Rattle.format.proofs.Strings.{is-empty, not-empty}
 use Rattle.identifier.specs.Parts.{dot, dotted}
 use Rattle.identifier.specs.SetDigits.{digits, width, set_part}
 use Rattle.identifier.specs.Elements.{three, parts_for, identifier_of}
@@ -31,6 +32,15 @@ identifier-pieces x i e = together x i (set_part (parts_of e) (ordinal_of e)) (e
 
 -- ---- the ISIL and its dot
 
+pub no-isil : (i : List ℕ) → length i ≡ 0 → isil_front i ≡ []
+no-isil i e = rw (is-empty i e)
+
+pub some-isil : (i : List ℕ) → (length i ≡ 0 → ⊥) → isil_front i ≡ i ++ (dot ∷ [])
+some-isil i e = rw (not-empty i e)
+
+pub isil-front-length : (i : List ℕ) → (length i ≡ 0 → ⊥) → length (isil_front i) ≡ length i + 1
+isil-front-length i e = ap length (some-isil i e) ∙ length-append i (dot ∷ [])
+
 pub isil-front-short : (i : List ℕ) → length (isil_front i) ≤ length i + 1
 isil-front-short [] = omega arith
 isil-front-short (y ∷ i) = omega (arith, length-append (y ∷ i) (dot ∷ []))
@@ -41,6 +51,9 @@ pub digits-length : (k n : ℕ) → length (digits k n) ≡ k
 unfolding digits
 digits-length zero n = refl
 digits-length (suc k) n = length-append (digits k (n / 10)) _ ∙ omega (arith, digits-length k (n / 10))
+
+pub no-set : (total ordinal : ℕ) → total ≡ 0 → set_end total ordinal ≡ []
+no-set total ordinal e = rw (eq-eqb total 0 e)
 
 -- w is the total's width
 module _ (total ordinal w : ℕ) (is : w ≡ width total) (some : total ≡ 0 → ⊥) where

@@ -16,6 +16,9 @@ use Rattle.identifier.proofs.Splitting.{other, others}
 use Rattle.parting.specs.Places.{sixteen, Skips}
 
 module _ (s : List ℕ) (at : ℕ) where
+  pub skips-none : at ≤ length s → Skips s at at
+  skips-none h = record { inside = h; first = refl }
+
   module _ (i : ℕ) (p : Skips s at i) where
     dot-here : i < length s → get_or s i 0 ≡ dot → up_to dot (drop i s) ≡ []
     unfolding up_to
