@@ -23,6 +23,7 @@ fn read_full(input: &mut impl Read, buffer: &mut [u8]) -> io::Result<usize>
     Ok(filled)
 }
 
+// Lends `list` just the bytes read, and writes just the bytes that it answers, which are in its buffer.
 fn main(rt: HostRuntime) -> io::Result<()> {
     let mut tag = [0u8; 2049];
     let n = read_full(&mut rt.reader(), &mut tag)?;
