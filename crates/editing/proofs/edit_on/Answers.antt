@@ -1,24 +1,23 @@
 -- `editing::edit_on` passes the refusals of its stages on, or stores the sealed draft of the edited row.
 use mathlib.Core.Path.{◌≡◌, refl, sym, ap, ◌∙◌}
-use Prim.Native.Nat.{ℕ, ◌+◌, ◌≤◌}
+use Prim.Native.Nat.{◌+◌, ◌≤◌}
 use mathlib.Core.Bool.{true}
-use mathlib.Core.List.{List}
 use native.Mathlib.Omega.{arith}
-use lib.ListN.{length, replicate}
+use lib.ListN.{length}
 use Rattle.format.specs.Bytes.{bytes}
-use Rattle.format.specs.Calls.{own_layout}
 use Rattle.format.specs.Numbers.{refusal_of, number_of, stage_given}
 use Rattle.format.proofs.Tests.{bytes-all}
 use Rattle.format.proofs.Answers.{need-inv}
-use Rattle.look.specs.View.{look_given, Sighted}
+use Rattle.look.specs.View.{look_given}
 use Rattle.look.proofs.Judged.{looked-sighted, looked-refused}
-use Rattle.look.proofs.Laws.{Seen, look-seen}
+use Rattle.look.proofs.Laws.{look-seen}
 use Rattle.image.specs.Drafting.{Fresh}
 use Rattle.image.proofs.Laws.{cleared-fresh}
 use Rattle.editing.proofs.Editor.{look-edits, own-edits, value-edits}
 use Rattle.editing.proofs.Own.{own-inside}
 use Rattle.editing.proofs.Edited.{Taken, Put, put-asks, old-fits, edited-asks, old-there, old-bytes, drafted-refused, locked-refused, stored-edits}
 use Rattle.editing.proofs.edit_on.Goals.{In-Passed-valued, After-put-was, After-clear}
+use borrow.Author.Rules.{rules}
 use Rattle.editing.proofs.edit_on.Goals as goal
 
 -- ---- the tag is looked at
@@ -50,7 +49,7 @@ taken : (c : In-Passed-valued) → let a = c.args in let l = c.look_at-looked.ne
     Taken a.tag.now a.locks.now a.number a.bytes.now a.old.now l.ats l.lens l.made c.in-Seen.view
 taken c =
     let s = looked-sighted _ _ _ _ _ _ _ _ c.look_at-looked.ensures _ c.in-Seen.is in
-    let y : bytes c.args.tag.now ≡ true = bytes-all c.args.tag.now (λ i h. (c.slice_known-2-1.given i).fits) in
+    let y : bytes c.args.tag.now ≡ true = bytes-all c.args.tag.now (λ i h. search rules) in
     record {
       all-bytes = y;
       sized = c.requires.1;

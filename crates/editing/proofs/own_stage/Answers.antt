@@ -1,22 +1,19 @@
 -- `editing::own_stage` meets its contract: the draft is compared with the tag.
 use mathlib.Core.Path.{◌≡◌, refl, sym, ap, ◌∙◌}
-use Prim.Native.Nat.{ℕ, ◌+◌, ◌-◌, ◌≤◌, ◌<◌}
-use mathlib.Core.Bool.{Bool, true}
+use Prim.Native.Nat.{ℕ}
+use mathlib.Core.Bool.{true}
 use mathlib.Core.List.{List}
 use native.Mathlib.Omega.{arith}
-use lib.ListN.{length, length-set, get_or, take, drop, set, replicate}
+use lib.ListN.{length-set, get_or, replicate}
 use Rattle.std.proofs.Common.{Fits, w8}
-use Rattle.format.specs.Answers.{got}
-use Rattle.format.specs.Calls.{own_layout}
-use Rattle.format.specs.Bytes.{bytes, same}
+use Rattle.format.specs.Bytes.{bytes}
 use Rattle.format.specs.Numbers.{stage_given}
-use Rattle.format.specs.declared.Stage.{Stage}
 use Rattle.format.proofs.Tests.{bytes-all}
 use Rattle.format.proofs.Answers.{need-ok, need-no}
 use Rattle.look.specs.declared.View.{View}
 use Rattle.look.specs.View.{Sighted}
 use Rattle.look.proofs.Laws.{Seen, look-seen}
-use Rattle.image.specs.Drafting.{Fresh, Drafted}
+use Rattle.image.specs.Drafting.{Fresh}
 use Rattle.editing.proofs.Own as own
 use Rattle.editing.proofs.own_stage.Goals as goal
 
