@@ -17,7 +17,7 @@ use rows::PLACES;
 
 // The carried blocks of a readable tag: there are `count`, of `size` bytes together; where `blocks` is as long, it is they in one piece, so
 // that they need not be gathered.
-#[derive(Drop)]
+#[derive(Clone, Copy)]
 pub struct View {
     pub count: usize,
     pub size: usize,
