@@ -1,0 +1,9 @@
+-- `urp_text_to_words` takes the answer apart: the number and the result are what the call's contract says.
+use Rattle.capi.proofs.Given.{filled-refused, filled-done}
+use Rattle.capi.proofs.urp_text_to_words.Goals as goal
+
+pub returns-in_default : goal.returns-in_default
+returns-in_default c = filled-refused _ _ _ _ c.text_to_words-answer.ensures _ c.in_default.is c.answer_number.ensures
+
+pub returns : goal.returns
+returns c = filled-done _ _ _ _ c.text_to_words-answer.ensures c.in-Done.is
