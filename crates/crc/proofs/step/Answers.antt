@@ -1,8 +1,7 @@
 -- `crc::step`: the byte meets the register's high end, and eight bits go on.
 use mathlib.Core.Path.{◌≡◌, sym, ap₂, ◌∙◌}
-use Prim.Native.Nat.{ℕ, ◌*◌, ◌%◌, ◌<◌}
+use Prim.Native.Nat.{ℕ, ◌*◌}
 use native.Mathlib.Omega.{arith}
-use borrow.Author.Rules.{rules}
 use lib.Bits.{bit_xor}
 use Rattle.format.specs.Crc.{crc_bits, crc_byte}
 use Rattle.format.proofs.Xor.{xor-up}

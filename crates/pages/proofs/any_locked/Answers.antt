@@ -1,11 +1,6 @@
 -- `pages::any_locked` meets its contract. The loop's invariant: the lock bytes that are left decide, with those before them, whether one is locked.
-use mathlib.Core.Path.{◌≡◌, refl}
-use Prim.Native.Nat.{◌-◌, ◌≤◌}
-use mathlib.Core.Bool.{not, ◌||◌}
-use lib.ListN.{length, drop}
+use mathlib.Core.Path.{refl}
 use borrow.Author.Rules.{rules}
-use Rattle.format.specs.Bytes.{all}
-use Rattle.pages.specs.Storing.{is_open}
 use Rattle.pages.proofs.Comparing.{any-turned, any-ended}
 use Rattle.pages.proofs.any_locked.Goals as goal
 

@@ -1,12 +1,10 @@
 -- `pages::any_locked` meets its contract. The loop's invariant: the lock bytes that are left decide, with those before them, whether one is locked.
-use mathlib.Core.Path.{◌≡◌, refl}
+use mathlib.Core.Path.{◌≡◌}
 use Prim.Native.Nat.{◌-◌, ◌≤◌}
 use mathlib.Core.Bool.{not, ◌||◌}
 use lib.ListN.{length, drop}
-use borrow.Author.Rules.{rules}
 use Rattle.format.specs.Bytes.{all}
 use Rattle.pages.specs.Storing.{is_open}
-use Rattle.pages.proofs.Comparing.{any-turned, any-ended}
 use Rattle.pages.proofs.any_locked.Given as goal
 
 abbrev pub invariant-loop-i : goal.invariant-loop-i

@@ -1,9 +1,5 @@
 -- `pages::good_locks` meets its contract. The loop's invariant: the lock bytes that are left decide what all of them come to.
-use mathlib.Core.Path.{◌≡◌, refl}
-use Prim.Native.Nat.{ℕ, ◌-◌, ◌≤◌}
-use mathlib.Core.Bool.{Bool}
-use lib.Dec.{leb}
-use lib.ListN.{length, drop}
+use mathlib.Core.Path.{refl}
 use borrow.Author.Rules.{rules}
 use borrow.Author.Tests.{eq-eqb, ne_eqb, le-leb, lt-leb}
 use Rattle.format.specs.Bytes.{all}

@@ -1,14 +1,10 @@
 -- `pages::good_locks` meets its contract. The loop's invariant: the lock bytes that are left decide what all of them come to.
-use mathlib.Core.Path.{◌≡◌, refl}
+use mathlib.Core.Path.{◌≡◌}
 use Prim.Native.Nat.{ℕ, ◌-◌, ◌≤◌}
 use mathlib.Core.Bool.{Bool}
 use lib.Dec.{leb}
 use lib.ListN.{length, drop}
-use borrow.Author.Rules.{rules}
-use borrow.Author.Tests.{eq-eqb, ne_eqb, le-leb, lt-leb}
 use Rattle.format.specs.Bytes.{all}
-use Rattle.format.specs.Pages.{lock_map}
-use Rattle.pages.proofs.Comparing.{all-passed, all-failed, all-ended}
 use Rattle.pages.proofs.good_locks.Given as goal
 
 -- a lock byte is 0 or 1

@@ -1,8 +1,7 @@
 -- `pages::good_size` meets its contract: its tests are the definition's.
-use mathlib.Core.Path.{◌≡◌, sym, ap, ◌∙◌}
-use mathlib.Core.Logic.{⊎_elim}
-use Prim.Native.Nat.{ℕ, ◌%◌}
-use mathlib.Core.Bool.{Bool, ◌&&◌, and_assoc}
+use mathlib.Core.Path.{◌≡◌, sym, ◌∙◌}
+use Prim.Native.Nat.{◌%◌}
+use mathlib.Core.Bool.{◌&&◌}
 use mathlib.Core.Logic.{inl, inr}
 use lib.Dec.{eqb, leb}
 use borrow.Author.Tests.{le-leb, lt-leb, eq-eqb, ne_eqb}

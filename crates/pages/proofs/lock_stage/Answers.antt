@@ -1,9 +1,7 @@
 -- `pages::lock_stage` meets its contract: its tests are the definition's steps.
 use mathlib.Core.Path.{◌≡◌, sym, ◌∙◌}
-use mathlib.Core.Logic.{⊎_elim}
 use mathlib.Core.Bool.{true}
 use lib.Dec.{eqb}
-use borrow.Author.Rules.{rules}
 use borrow.Author.Tests.{eq-eqb, ne_eqb}
 use Rattle.format.specs.Answers.{need, in_order}
 use Rattle.format.specs.Pages.{page_size, locked_changed}

@@ -3,7 +3,6 @@ use mathlib.Core.Path.{ap₂, ◌∙◌}
 use Prim.Native.Nat.{ℕ}
 use mathlib.Core.Bool.{not}
 use lib.Dec.{eqb}
-use borrow.Author.Rules.{rules}
 use Rattle.format.proofs.Tests.{bytes-all}
 use Rattle.pages.proofs.Words.{differs-by-number}
 use Rattle.pages.proofs.page_differs.Goals as goal

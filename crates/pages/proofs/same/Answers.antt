@@ -1,10 +1,6 @@
 -- `pages::same` meets its contract. The loop's invariant: what is left of the two decides, with the bytes before it, whether they are the same.
-use mathlib.Core.Path.{◌≡◌, refl, sym}
-use Prim.Native.Nat.{◌-◌, ◌≤◌}
-use mathlib.Core.Bool.{◌&&◌}
-use lib.ListN.{length, drop}
+use mathlib.Core.Path.{refl, sym}
 use borrow.Author.Rules.{rules}
-use Rattle.format.specs.Bytes.{same}
 use Rattle.pages.proofs.Comparing.{same-other-length, same-turned, same_ended}
 use Rattle.pages.proofs.same.Goals as goal
 

@@ -1,11 +1,9 @@
 -- `pages::same` meets its contract. The loop's invariant: what is left of the two decides, with the bytes before it, whether they are the same.
-use mathlib.Core.Path.{◌≡◌, refl, sym}
+use mathlib.Core.Path.{◌≡◌}
 use Prim.Native.Nat.{◌-◌, ◌≤◌}
 use mathlib.Core.Bool.{◌&&◌}
 use lib.ListN.{length, drop}
-use borrow.Author.Rules.{rules}
 use Rattle.format.specs.Bytes.{same}
-use Rattle.pages.proofs.Comparing.{same-other-length, same-turned, same_ended}
 use Rattle.pages.proofs.same.Given as goal
 
 abbrev pub invariant-loop-i : goal.invariant-loop-i

@@ -1,7 +1,5 @@
 -- `pages::size_stage` meets its contract: it tests the length and then the lock map; either is 1.
 use mathlib.Core.Path.{sym, ◌∙◌}
-use borrow.Author.Rules.{rules}
-use borrow.Author.Tests.{not-true, not-false}
 use Rattle.format.specs.Answers.{need}
 use Rattle.pages.proofs.size_stage.Goals as goal
 

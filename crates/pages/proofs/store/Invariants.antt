@@ -1,12 +1,7 @@
 -- `pages::store` meets its contract. The loop's invariant: the image's pages that it has passed stand on the tag, and those that differed are counted.
-use mathlib.Core.Path.{◌≡◌, sym, ◌∙◌}
-use mathlib.Core.Logic.{⊎_elim}
 use Prim.Native.Nat.{◌-◌, ◌≤◌}
-use native.Mathlib.Omega.{arith}
-use borrow.Author.Rules.{rules}
-use Rattle.format.specs.Pages.{page_size, differs}
-use Rattle.pages.proofs.Counting.{count-at-most}
-use Rattle.pages.proofs.Storing.{FirstPages, no-pages, one-stored, one-there, all-stored}
+use Rattle.format.specs.Pages.{page_size}
+use Rattle.pages.proofs.Storing.{FirstPages}
 use Rattle.pages.proofs.store.Given as goal
 
 abbrev pub invariant-loop-i : goal.invariant-loop-i

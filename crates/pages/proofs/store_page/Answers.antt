@@ -2,7 +2,6 @@
 use mathlib.Core.Path.{◌≡◌}
 use Prim.Native.Nat.{◌+◌, ◌-◌, ◌*◌}
 use native.Mathlib.Omega.{arith}
-use borrow.Author.Rules.{rules}
 use Rattle.format.specs.Pages.{page_size}
 use Rattle.pages.proofs.Storing.{page-copied}
 use Rattle.pages.proofs.store_page.Goals as goal

@@ -1,7 +1,6 @@
 -- `rows::number_at` meets its contract: the table is the list of numbers.
 use mathlib.Core.Path.{refl, sym}
 use lib.ListN.{get_or-eq_default}
-use borrow.Author.Rules.{rules}
 use Rattle.format.specs.Elements.{numbers}
 use Rattle.rows.proofs.number_at.Goals as goal
 

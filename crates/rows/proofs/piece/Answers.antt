@@ -2,7 +2,6 @@
 use Prim.Native.Nat.{◌+◌, ◌-◌, ◌≤◌}
 use native.Mathlib.Omega.{arith}
 use lib.ListN.{length}
-use borrow.Author.Rules.{rules}
 use Rattle.rows.proofs.Standing.{in_source, in-made, source-part, made-part}
 use Rattle.rows.proofs.piece.Goals.{Else-at-n, Then-at-n}
 use Rattle.rows.proofs.piece.Goals as goal

@@ -1,9 +1,6 @@
 -- `rows::place_of` meets its contract: the number does not stand before place k.
 use mathlib.Core.Path.{sym, ◌∙◌}
-use Prim.Native.Nat.{◌-◌}
-use borrow.Author.Rules.{rules}
-use Rattle.format.specs.Elements.{places}
-use Rattle.rows.proofs.Table.{Sought, sought-start, sought-found, sought-on, sought-over}
+use Rattle.rows.proofs.Table.{sought-start, sought-found, sought-on, sought-over}
 use Rattle.rows.proofs.place_of.Goals as goal
 
 pub loop-k-init : goal.loop-k-init

@@ -1,6 +1,5 @@
 -- Past the end `get_or` gives 00.
 use mathlib.Core.Path.{sym}
-use borrow.Author.Rules.{rules}
 use lib.ListN.{get_or-eq_default}
 use Rattle.strings.proofs.byte_at.Goals as goal
 

@@ -1,9 +1,6 @@
 -- `strings::clear` meets its contract. The loop's invariant: the bytes before i are 00.
-use Prim.Native.Nat.{◌-◌}
 use native.Mathlib.Omega.{arith}
-use borrow.Author.Rules.{rules}
-use lib.ListN.{length}
-use Rattle.strings.proofs.Clearing.{Cleared, cleared-start, cleared-length, cleared-on, cleared-all}
+use Rattle.strings.proofs.Clearing.{cleared-start, cleared-length, cleared-on, cleared-all}
 use Rattle.strings.proofs.clear.Goals as goal
 
 pub loop-i-init : goal.loop-i-init

@@ -1,9 +1,7 @@
 -- `strings::clear` meets its contract. The loop's invariant: the bytes before i are 00.
 use Prim.Native.Nat.{◌-◌}
-use native.Mathlib.Omega.{arith}
-use borrow.Author.Rules.{rules}
 use lib.ListN.{length}
-use Rattle.strings.proofs.Clearing.{Cleared, cleared-start, cleared-length, cleared-on, cleared-all}
+use Rattle.strings.proofs.Clearing.{Cleared}
 use Rattle.strings.proofs.clear.Given as goal
 
 abbrev pub invariant-loop-i : goal.invariant-loop-i

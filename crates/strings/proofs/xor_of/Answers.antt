@@ -1,11 +1,7 @@
 -- `strings::xor_of` meets its contract. The loop's invariant: what is found so far, with the XOR of what is left, is the XOR of all.
-use mathlib.Core.Path.{◌≡◌}
-use Prim.Native.Nat.{◌-◌, ◌≤◌}
 use native.Mathlib.Omega.{arith}
-use lib.ListN.{length, drop}
-use lib.Bits.{bit_xor, xor_zero_l}
+use lib.Bits.{xor_zero_l}
 use borrow.Author.Rules.{rules}
-use Rattle.format.specs.Bytes.{xor_all}
 use Rattle.format.proofs.Xor.{xor-more, xor-over}
 use Rattle.strings.proofs.xor_of.Goals as goal
 
