@@ -4,24 +4,8 @@ use mathlib.Core.Path.{sym}
 use mathlib.Core.List.{◌++◌}
 use Rattle.format.proofs.Pieces.{stored-then, stored-as}
 use Rattle.listing.specs.Listing.{leading}
-use Rattle.listing.proofs.Text.{last, decimal-leading, leading_length}
-use borrow.Author.Rules.{rules}
+use Rattle.listing.proofs.Text.{last, decimal-leading}
 use Rattle.listing.proofs.put_decimal.Goals as goal
-
-pub put_digit-hundreds-requires : goal.put_digit-hundreds-requires
-put_digit-hundreds-requires c =
-    let n = c.args.n in
-    (omega (arith, leading_length 1000 n), search rules)
-
-pub put_digit-tens-requires : goal.put_digit-tens-requires
-put_digit-tens-requires c =
-    let n = c.args.n in
-    (omega (arith, leading_length 1000 n, leading_length 100 n), search rules)
-
-pub put_byte-requires : goal.put_byte-requires
-put_byte-requires c =
-    let n = c.args.n in
-    omega (arith, leading_length 1000 n, leading_length 100 n, leading_length 10 n)
 
 pub returns : goal.returns
 returns c =

@@ -14,20 +14,8 @@ use Rattle.listing.proofs.put_elements.Goals as goal
 pub bounds-sheet-0 : goal.bounds-sheet-0
 bounds-sheet-0 c = omega (arith, body-length c.args.sheet.now c.requires.0)
 
-pub overflow_cast-count : goal.overflow_cast-count
-overflow_cast-count c = omega (arith, c.type_inv.sheet 0)
-
 pub bounds-sheet-1 : goal.bounds-sheet-1
 bounds-sheet-1 c = omega (arith, body-length c.args.sheet.now c.requires.0)
-
-pub overflow_cast-count-2 : goal.overflow_cast-count-2
-overflow_cast-count-2 c = omega (arith, c.type_inv.sheet 1)
-
-pub overflow_mul-count : goal.overflow_mul-count
-overflow_mul-count c = omega (arith, c.type_inv.sheet 1)
-
-pub overflow_add-count : goal.overflow_add-count
-overflow_add-count c = omega (arith, c.type_inv.sheet 0, c.type_inv.sheet 1)
 
 pub put_counted-lines-requires : goal.put_counted-lines-requires
 unfolding word

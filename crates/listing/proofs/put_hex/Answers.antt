@@ -24,14 +24,8 @@ pub loop-i-init : goal.loop-i-init
 unfolding hex_of
 loop-i-init c = (search rules, refl, search rules, stored-none c.args.out.now c.args.at)
 
-pub hex_digit-requires : goal.hex_digit-requires
-hex_digit-requires c = omega (arith, c.type_inv.s c.loop-i.i)
-
 pub put_byte-second-requires : goal.put_byte-second-requires
 put_byte-second-requires c = omega (arith, hex-length c.args.s.now)
-
-pub hex_digit-requires-in-loop-i : goal.hex_digit-requires-in-loop-i
-hex_digit-requires-in-loop-i c = omega arith
 
 pub put_byte-end-requires : goal.put_byte-end-requires
 put_byte-end-requires c = omega (arith, hex-length c.args.s.now)

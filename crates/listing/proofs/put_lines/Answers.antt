@@ -1,5 +1,4 @@
 -- `put_lines`: a line is stored for each entry passed; the heads of those that are left begin at `head`, their bytes at `body`.
-use Prim.Native.Nat.{◌+◌}
 use native.Mathlib.Omega.{arith}
 use Rattle.format.proofs.Sheets.{body-length}
 use Rattle.listing.proofs.Lines.{Within, printing-starts, can-read, printing-on, printing-ends}
@@ -28,9 +27,6 @@ overflow_add-next c = let r = can c in omega arith
 pub bounds-sheet-head : goal.bounds-sheet-head
 bounds-sheet-head c = let r = can (goal.at.bounds-sheet-head c).In-loop-head in omega arith
 
-pub overflow_cast-next : goal.overflow_cast-next
-overflow_cast-next c = omega (arith, c.type_inv.sheet (c.loop-head.head + 3))
-
 pub overflow_add-next-in-loop-head : goal.overflow_add-next-in-loop-head
 overflow_add-next-in-loop-head c = let r = can (goal.at.overflow_add-next-in-loop-head c).In-loop-head in omega arith
 
@@ -46,18 +42,12 @@ put_line-end-requires c = let r = can (goal.at.put_line-end-requires c).In-loop-
 pub overflow_add-head : goal.overflow_add-head
 overflow_add-head c = let r = can (goal.at.overflow_add-head c).In-loop-head in omega arith
 
-pub loop-head-smaller : goal.loop-head-smaller
-loop-head-smaller c = omega arith
-
 pub loop-head-preserved : goal.loop-head-preserved
 loop-head-preserved c =
     let l = c.loop-head in
     let number = c.type_inv.sheet l.head in
     let line = c.put_line-end in
     printing-on _ _ l.invariant c.loop-head-test.true (omega (arith, number)) line.auto.out line.ensures
-
-pub shape_of-out : goal.shape_of-out
-shape_of-out c = c.loop-head.invariant.kept
 
 pub returns : goal.returns
 returns c = printing-ends c.loop-head.invariant c.loop-head-test.false
