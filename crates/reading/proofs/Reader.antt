@@ -46,6 +46,9 @@ seen-carried t = refl
 
 -- what was seen of the tag t: where it lies, that it can be rendered, and that what is rendered of it is what is read
 module _ (t lent ats lens made : List ℕ) (v : View) (y : bytes t ≡ true) (s : Sighted t lent ats lens made v) (h : Seen t lent) where
+  pub sighted-made : 19 ≡ length made
+  sighted-made = rw s.made-is (sym h.made-length)
+
   pub sighted-inside : v.blocks.at + v.blocks.len ≤ length t
   sighted-inside = rw s.view-is h.blocks-inside
 
