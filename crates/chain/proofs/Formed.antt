@@ -1,4 +1,5 @@
 -- A block is judged rightly where the XOR of the bytes behind the first is right.
+use Rattle.std.specs.Prelude.{if◌then◌else◌}
 use mathlib.Core.Path.{◌≡◌, refl, sym, ap, ◌∙◌}
 use Prim.Native.Nat.{ℕ, ◌≤◌, ◌<◌}
 use native.Mathlib.Omega.{arith}
@@ -8,7 +9,7 @@ use lib.Bits.{bit_xor, xor_self, xor_zero_r}
 use lib.Dec.{eqb, leb}
 use lib.ListN.{length, get_or, drop}
 use borrow.Author.Tests.{eqb-true, eq-eqb, ne_eqb, leb-true, leb-false}
-use Rattle.format.specs.Bytes.{if◌then◌else◌, one_of, xor_all}
+use Rattle.format.specs.Bytes.{one_of, xor_all}
 use Rattle.format.specs.Answers.{placed, got, refused, need_at, in_order}
 use Rattle.format.specs.Chain.{length_of, id_of, whole, structured, named, summed, well_formed, single, damage_steps, damage_of}
 use Rattle.format.specs.Numbers.{number_of}

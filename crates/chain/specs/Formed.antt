@@ -1,6 +1,5 @@
 -- A block as the code judges it: x is the XOR of the bytes behind the first, which is the first where the XOR of all is 00.
-use Rattle.std.specs.Prelude.{ℕ, Bool, true, false, not, ◌&&◌, List, length, leb, eqb}
-use Rattle.format.specs.Bytes.{if◌then◌else◌}
+use Rattle.std.specs.Prelude.{ℕ, Bool, true, false, not, ◌&&◌, List, length, leb, eqb, if◌then◌else◌}
 use Rattle.format.specs.Chain.{length_of, id_of, whole, structured}
 
 -- the number of the damage of a structured block, 0 for none: it has n bytes, as it says, and the ID `id`; `seen`: a

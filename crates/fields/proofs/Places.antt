@@ -1,4 +1,5 @@
 -- Where the parts stand that judging a field tells of.
+use Rattle.std.specs.Prelude.{if◌then◌else◌}
 use mathlib.Core.Path.{◌≡◌, refl, sym, ap, ap₂, subst, ◌∙◌}
 use mathlib.Core.Logic.{inl, inr}
 use Prim.Native.Nat.{ℕ, zero, suc, ◌+◌, ◌-◌, ◌≤◌}
@@ -11,7 +12,7 @@ use lib.Seq.{drop-drop, take-take}
 use lib.Dec.{eqb, leb}
 use borrow.Author.Tests.{eqb-false, ne_eqb, le-leb, lt-leb, leb-false}
 use Rattle.format.specs.Answers.{need, in_order}
-use Rattle.format.specs.Bytes.{if◌then◌else◌, is_empty, all, same, part, trim, strip, up_to, past}
+use Rattle.format.specs.Bytes.{is_empty, all, same, part, trim, strip, up_to, past}
 use Rattle.format.specs.Fields.{capital, hyphen, blank, alternate, alternative, marked, good_item, prefix_in, owner_said, good_owner}
 use Rattle.format.specs.Chain.{payload, fields_in, library_in, good_library}
 use Rattle.format.proofs.Tests.{never, and_l, or-inv}

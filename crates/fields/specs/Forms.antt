@@ -1,8 +1,8 @@
 -- What the fields of the basic block and of block 1 hold, as judging them answers: document 01, "The first 34 bytes" and "The chain of
 -- blocks". Every rule is one of `format`'s; here stand only the cases and the lengths. A field that breaks its form is refusal 6.
-use Rattle.std.specs.Prelude.{ℕ, List, length, drop, get_or, leb}
+use Rattle.std.specs.Prelude.{ℕ, List, length, drop, get_or, leb, if◌then◌else◌}
 use Rattle.format.specs.Answers.{Answer, got, refused, plain}
-use Rattle.format.specs.Bytes.{if◌then◌else◌, strip}
+use Rattle.format.specs.Bytes.{strip}
 use Rattle.format.specs.Fields.{marked, prefix_in, good_item, good_owner}
 use Rattle.format.specs.Chain.{library_in, good_library}
 use Rattle.fields.specs.declared.ItemParts.{ItemParts}

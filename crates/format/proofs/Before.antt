@@ -1,5 +1,6 @@
 -- What passed before document 02, E4, passes still and has the same outcome; what changed is some 6 of a tag, some 9 of a sheet or an edit.
 -- Of text it takes only `text-plain`: the bytes 20 to 7E are text.
+use Rattle.std.specs.Prelude.{if◌then◌else◌}
 use mathlib.Core.Path.{◌≡◌, refl, sym, ap, ◌∙◌}
 use mathlib.Core.Logic.{◌⊎◌, inl, inr, ⊎_elim, ⊎_map}
 use Prim.Native.Nat.{ℕ, zero, suc}
@@ -9,7 +10,7 @@ use lib.Dec.{eqb, leb}
 use lib.ListN.{length, get_or, drop, set, replicate}
 use borrow.Author.Tests.{eqb-true}
 use Rattle.format.specs.Answers.{Refusal, plain, got, refused, Step, need, need_at, in_order, and_then, or_else, Passed}
-use Rattle.format.specs.Bytes.{if◌then◌else◌, is_empty, all, one_of, same, le16, word, trim, strip, up_to, past, xor_all}
+use Rattle.format.specs.Bytes.{is_empty, all, one_of, same, le16, word, trim, strip, up_to, past, xor_all}
 use Rattle.format.specs.Pages.{count, changed}
 use Rattle.format.specs.Text.{rows, after, rows_from, text}
 use Rattle.format.specs.Fields.{isil_of, isil, alternate, alternative, is_owner, marked, good_item, prefix_in, good_owner}

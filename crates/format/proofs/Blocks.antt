@@ -1,4 +1,5 @@
 -- A chain of well-formed blocks is walked as it was laid, and block 1's fields come back.
+use Rattle.std.specs.Prelude.{if◌then◌else◌}
 use mathlib.Core.Path.{◌≡◌, refl, sym, ap, ◌∙◌}
 use Prim.Native.Nat.{ℕ, zero, suc, ◌+◌, ◌≤◌, ◌<◌}
 use native.Mathlib.Nat.{le_refl}
@@ -10,7 +11,7 @@ use lib.ListN.{length, drop, get_or, replicate, length-append, get_or-append}
 use lib.Seq.{take_at, drop_at}
 use borrow.Author.Tests.{eqb-true, eqb-false, eq-eqb, ne_eqb, leb-true, le-leb}
 use Rattle.format.specs.Answers.{got, and_then}
-use Rattle.format.specs.Bytes.{if◌then◌else◌, is_empty, all, one_of, le16, word, xor_all, trim, strip, joined}
+use Rattle.format.specs.Bytes.{is_empty, all, one_of, le16, word, xor_all, trim, strip, joined}
 use Rattle.format.specs.Text.{text}
 use Rattle.format.specs.Fields.{is_owner}
 use Rattle.format.specs.Chain.{length_of, id_of, whole, named, summed, well_formed, taken_apart, carriable, single, damage_steps, damage_of, walk, chain, block_of, other_blocks, payload, beyond, separated, sealed, block_with, Library, last_field, library_in, good_library, library_fields, library_bytes, block_one}

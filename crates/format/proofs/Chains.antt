@@ -1,5 +1,6 @@
 -- The chain of blocks from a place on, free of the turns that `walk` counts: its three equations, and what a whole chain has at
 -- each place.
+use Rattle.std.specs.Prelude.{if◌then◌else◌}
 use mathlib.Core.Path.{◌≡◌, refl, sym, ap, ◌∙◌, subst}
 use Prim.Native.Nat.{ℕ, zero, suc, ◌+◌, ◌-◌, ◌≤◌, ◌<◌}
 use native.Mathlib.Nat.{add-zero}
@@ -11,7 +12,7 @@ use lib.ListN.{length, take, drop, get_or, length-take, length-drop, length-appe
 use lib.Seq.{get_or-drop, get_or-take, drop-drop}
 use borrow.Author.Tests.{eqb-true, eqb-false, ne_eqb, leb-true, leb-false}
 use Rattle.format.specs.Answers.{Answer, got, and_then}
-use Rattle.format.specs.Bytes.{if◌then◌else◌, joined}
+use Rattle.format.specs.Bytes.{joined}
 use Rattle.format.specs.Chain.{length_of, id_of, well_formed, damage_of, walk, chain}
 use Rattle.format.specs.Reading.{walked}
 use Rattle.format.specs.Damage.{block_at}

@@ -1,5 +1,6 @@
 -- The CRC's register. Its step is linear, which a later request needs (E11, how much damage is caught). Nothing here depends on which polynomial it
 -- is, but that it fits sixteen bits.
+use Rattle.std.specs.Prelude.{if◌then◌else◌}
 use mathlib.Core.Path.{◌≡◌, refl, sym, ap, ap₂, ◌∙◌}
 use Prim.Native.Nat.{ℕ, zero, suc, ◌*◌, ◌/◌, ◌%◌, ◌<◌}
 use native.Mathlib.Nat.{mod-lt, zero-lt-suc}
@@ -9,7 +10,6 @@ use mathlib.Core.List.{List, [], ◌∷◌, ◌++◌}
 use lib.Dec.{leb}
 use lib.Bits.{bit_xor, xor_lt, xor_shr, xor_mod}
 use borrow.Author.Tests.{leb-true, leb-false}
-use Rattle.format.specs.Bytes.{if◌then◌else◌}
 use Rattle.format.specs.Crc.{polynomial, crc_bit, crc_bits, crc_byte, crc_from}
 use Rattle.format.proofs.Xor.{xor-swap, xor-up}
 

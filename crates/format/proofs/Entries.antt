@@ -1,4 +1,5 @@
 -- The entries of a sheet with good values, put into their slots and taken out again, are the same entries.
+use Rattle.std.specs.Prelude.{if◌then◌else◌}
 use mathlib.Core.Path.{◌≡◌, refl, sym, ap, ap₂, ◌∙◌}
 use mathlib.Core.Logic.{◌⊎◌, inl, inr}
 use Prim.Native.Nat.{ℕ, ◌≤◌, ◌<◌}
@@ -9,7 +10,7 @@ use mathlib.Core.List.{List, [], ◌∷◌, ◌++◌, map}
 use lib.Dec.{eqb, leb, ltb}
 use lib.ListN.{length}
 use borrow.Author.Tests.{eqb-true, eq-eqb, ne_eqb, ltb-true, lt-ltb}
-use Rattle.format.specs.Bytes.{if◌then◌else◌, is_empty, all, up_to, past}
+use Rattle.format.specs.Bytes.{is_empty, all, up_to, past}
 use Rattle.format.specs.Fields.{isil_of, isil, alternative}
 use Rattle.format.specs.Chain.{named, summed, well_formed, carriable}
 use Rattle.format.specs.Elements.{Content, table, numbers, required, set_info, shape, form, value, values_at, clash, sound}

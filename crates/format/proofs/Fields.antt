@@ -1,4 +1,5 @@
 -- The item field and the owner field of the basic block come back: what was written there is what is read there.
+use Rattle.std.specs.Prelude.{if◌then◌else◌}
 use mathlib.Core.Path.{◌≡◌, refl, sym, ap, ◌∙◌}
 use mathlib.Core.Logic.{◌⊎◌, inl, inr}
 use Prim.Native.Nat.{ℕ, ◌+◌, ◌-◌, ◌≤◌, ◌<◌}
@@ -9,7 +10,7 @@ use lib.Dec.{eqb, leb}
 use lib.ListN.{length, drop, get_or}
 use lib.Seq.{get_or-drop}
 use borrow.Author.Tests.{ne_eqb, leb-true, le-leb, lt-leb, leb-false}
-use Rattle.format.specs.Bytes.{if◌then◌else◌, is_empty, all, same, pad_with, trim, strip, up_to, past}
+use Rattle.format.specs.Bytes.{is_empty, all, same, pad_with, trim, strip, up_to, past}
 use Rattle.format.specs.Text.{rows_from, text}
 use Rattle.format.specs.Fields.{capital, unit_byte, isil_of, isil, hyphen, blank, alternate, alternative, is_owner, marker, marked, good_item, prefix_in, owner_said, good_owner, long, item_field, packed, basic_owner, owner_field}
 use Rattle.format.proofs.Tests.{never, and_l, and_r, and_i, and-iff, not_t, or_l, or_r, or-inv, if-inv, all-mono, all_append, same-eq}

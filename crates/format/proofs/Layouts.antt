@@ -1,4 +1,5 @@
 -- What the writer lays down is read back.
+use Rattle.std.specs.Prelude.{if◌then◌else◌}
 use mathlib.Core.Path.{◌≡◌, refl, sym, ap, ap₂, ◌∙◌}
 use mathlib.Core.Logic.{◌⊎◌, inl, inr}
 use Prim.Native.Nat.{ℕ, ◌+◌, ◌-◌, ◌%◌, ◌≤◌}
@@ -10,7 +11,7 @@ use lib.ListN.{drop_of_length-le, length, take, drop, get_or, replicate, length-
 use lib.Seq.{take_at, drop_at, take_all, drop-append-add}
 use borrow.Author.Tests.{eqb-true, eq-eqb, leb-true, le-leb, leb-false}
 use Rattle.format.specs.Answers.{got}
-use Rattle.format.specs.Bytes.{if◌then◌else◌, is_empty, same, between, part, pad_with, pad, strip, up_to, le16, joined}
+use Rattle.format.specs.Bytes.{is_empty, same, between, part, pad_with, pad, strip, up_to, le16, joined}
 use Rattle.format.specs.Pages.{good_size}
 use Rattle.format.specs.Crc.{crc, covered}
 use Rattle.format.specs.Text.{text}

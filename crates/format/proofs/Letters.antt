@@ -1,5 +1,6 @@
 -- Text against code points. `letter-rows`: the encoding of every letter is one whole row of the syntax. `row-letters`: whatever stands in a
 -- row is the encoding of a letter, so no row has an overlong form, a surrogate, a value above 10FFFF or a control of the list.
+use Rattle.std.specs.Prelude.{if◌then◌else◌}
 use mathlib.Core.Path.{◌≡◌, refl, sym, ap, ap₂, ◌∙◌}
 use mathlib.Core.Logic.{◌⊎◌, inl, inr}
 use Prim.Native.Nat.{ℕ, zero, suc, ◌+◌, ◌-◌, ◌*◌, ◌/◌, ◌%◌, ◌≤◌, ◌<◌}
@@ -9,7 +10,7 @@ use mathlib.Core.List.{List, [], ◌∷◌, ◌++◌, append_assoc, append-nil}
 use lib.Dec.{leb, ltb, eqb}
 use lib.ListN.{length, take}
 use borrow.Author.Tests.{leb-true, leb-false, ltb-true, eqb-false, le-leb, lt-leb, ne_eqb}
-use Rattle.format.specs.Bytes.{if◌then◌else◌, all, between, joined}
+use Rattle.format.specs.Bytes.{all, between, joined}
 use Rattle.format.specs.Text.{Range, ◌to◌, tail, Row, ◌then◌, rows, after, rows_from, text, scalar, control, letter, six, encode, encodings, Encoded}
 use Rattle.format.proofs.Tests.{le-or-lt, never, and_l, and_r, and_i, and-iff, not_t, or-inv, or-false, or-f}
 use Rattle.format.proofs.Text.{between-i, between-facts, between-over, between-under, between-no, leads}

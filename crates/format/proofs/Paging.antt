@@ -1,4 +1,5 @@
 -- Pages that differ: the order of the two tags does not matter, and what no step changes no run changes.
+use Rattle.std.specs.Prelude.{if◌then◌else◌}
 use mathlib.Core.Path.{◌≡◌, refl, ap, ap₂, ◌∙◌}
 use Prim.Native.Nat.{ℕ, zero, suc, ◌*◌, ◌/◌, ◌≤◌, ◌<◌}
 use native.Mathlib.Omega.{arith}
@@ -8,7 +9,7 @@ use mathlib.Core.List.{List}
 use lib.Dec.{ltb}
 use lib.ListN.{length}
 use borrow.Author.Tests.{ltb-true, ltb-false}
-use Rattle.format.specs.Bytes.{if◌then◌else◌, same, part}
+use Rattle.format.specs.Bytes.{same, part}
 use Rattle.format.specs.Pages.{locked, differs, locked_differs, count, changed, locked_changed, open_pages, Kept}
 use Rattle.format.proofs.Tests.{never, and_no, not_f, same-sym, same_refl, same-eq}
 

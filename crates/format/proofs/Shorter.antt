@@ -1,4 +1,5 @@
 -- The layout of what a readable tag holds exists on that tag: no block of it is longer than what was read.
+use Rattle.std.specs.Prelude.{if◌then◌else◌}
 use mathlib.Core.Path.{◌≡◌, refl, sym, ap, ◌∙◌}
 use mathlib.Core.Logic.{◌⊎◌, inl, inr}
 use Prim.Native.Nat.{ℕ, ◌+◌, ◌-◌, ◌*◌, ◌%◌, ◌≤◌}
@@ -8,7 +9,7 @@ use mathlib.Core.List.{List, [], ◌∷◌, ◌++◌}
 use lib.Dec.{eqb}
 use lib.ListN.{length, drop, get_or, length-take, length-drop, length-append}
 use borrow.Author.Tests.{eqb-true, le-leb, lt-leb}
-use Rattle.format.specs.Bytes.{if◌then◌else◌, is_empty, bytes, same, part, pad_with, strip, trim, up_to, past, joined}
+use Rattle.format.specs.Bytes.{is_empty, bytes, same, part, pad_with, strip, trim, up_to, past, joined}
 use Rattle.format.specs.Pages.{good_size}
 use Rattle.format.specs.Fields.{isil_of, hyphen, blank, alternate, alternative, marked, prefix_in, owner_said, good_owner, long, packed, basic_owner}
 use Rattle.format.specs.Chain.{taken_apart, block_of, other_blocks, Library, payload, fields_in, beyond, separated, block_with, last_field, library_in, library_fields, library_bytes, block_one}

@@ -1,4 +1,5 @@
 -- A content's strings: a value for each number of the table.
+use Rattle.std.specs.Prelude.{if◌then◌else◌}
 use mathlib.Core.Path.{◌≡◌, refl, sym, ap, ◌∙◌}
 use mathlib.Core.Logic.{inl, inr}
 use Prim.Native.Nat.{ℕ, zero, suc, ◌<◌}
@@ -10,7 +11,7 @@ use lib.Dec.{eqb, leb}
 use lib.ListN.{length, get_or, set}
 use lib.Seq.{set-set, set-get_or}
 use borrow.Author.Tests.{eqb-true, ltb-true}
-use Rattle.format.specs.Bytes.{if◌then◌else◌, is_empty, all}
+use Rattle.format.specs.Bytes.{is_empty, all}
 use Rattle.format.specs.Elements.{Content, Kind, kind_is, numbers, place_in, place, known, el, put, shape, form, value, clash, values_at, sound}
 use Rattle.format.specs.Fields.{long}
 use Rattle.format.specs.Chain.{carriable}

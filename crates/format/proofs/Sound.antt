@@ -1,4 +1,5 @@
 -- Whatever a readable tag holds is sound: a value for each number, blocks that can be carried, no clash.
+use Rattle.std.specs.Prelude.{if◌then◌else◌}
 use mathlib.Core.Path.{◌≡◌, refl, sym, ap, ◌∙◌}
 use mathlib.Core.Logic.{◌⊎◌, inl, inr}
 use Prim.Native.Nat.{ℕ, zero, suc, ◌≤◌}
@@ -9,7 +10,7 @@ use lib.Dec.{eqb, leb}
 use lib.ListN.{length, take, drop, get_or, length-take, length-drop, length-append}
 use borrow.Author.Tests.{ne_eqb, leb-true, le-leb, lt-leb}
 use Rattle.format.specs.Answers.{got}
-use Rattle.format.specs.Bytes.{if◌then◌else◌, is_empty, all, bytes, same, part, strip, past}
+use Rattle.format.specs.Bytes.{is_empty, all, bytes, same, part, strip, past}
 use Rattle.format.specs.Text.{text}
 use Rattle.format.specs.Fields.{capital, isil_of, isil, hyphen, blank, alternate, alternative, is_owner, marker, marked, good_item, prefix_in, owner_said, good_owner, long}
 use Rattle.format.specs.Chain.{id_of, well_formed, taken_apart, carriable, block_of, other_blocks, payload, fields_in, last_field, library_in, good_library}

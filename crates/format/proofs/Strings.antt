@@ -1,4 +1,5 @@
 -- Laws of byte strings: filled, stripped, parted.
+use Rattle.std.specs.Prelude.{if◌then◌else◌}
 use mathlib.Core.Path.{◌≡◌, refl, sym, ap, ap₂, ◌∙◌}
 use Prim.Native.Nat.{ℕ, zero, suc, ◌+◌, ◌-◌, ◌/◌, ◌%◌, ◌≤◌, ◌<◌}
 use native.Mathlib.Omega.{arith}
@@ -9,7 +10,7 @@ use lib.ListN.{length, drop, get_or, replicate, length-append, length-replicate,
 use lib.Seq.{drop-cons}
 use lib.Dec.{eqb}
 use borrow.Author.Tests.{eqb-true, eqb-false, eq-eqb, ne_eqb}
-use Rattle.format.specs.Bytes.{if◌then◌else◌, is_empty, all, le16, word, part, pad_with, pad, trim, strip, up_to, past}
+use Rattle.format.specs.Bytes.{is_empty, all, le16, word, part, pad_with, pad, trim, strip, up_to, past}
 use Rattle.format.proofs.Tests.{never, and_l, and_r, not_t}
 
 -- ---- sixteen bits in two bytes

@@ -1,4 +1,5 @@
 -- Laws of tests: what `&&`, `||`, `not`, `if`, `all` and `same` say.
+use Rattle.std.specs.Prelude.{if◌then◌else◌}
 use mathlib.Core.Path.{◌≡◌, refl, sym, ap₂}
 use mathlib.Core.Logic.{◌↔◌, ◌⊎◌, inl, inr}
 use Prim.Native.Nat.{ℕ, zero, suc, ◌≤◌, ◌<◌}
@@ -9,7 +10,7 @@ use mathlib.Core.List.{List, [], ◌∷◌, ◌++◌}
 use lib.ListN.{length, take, drop, get_or}
 use lib.Dec.{eqb, leb}
 use borrow.Author.Tests.{eqb-true, eq-eqb, leb-true, leb-false, le-leb}
-use Rattle.format.specs.Bytes.{if◌then◌else◌, all, same, bytes}
+use Rattle.format.specs.Bytes.{all, same, bytes}
 
 -- what is absurd proves anything
 pub never : {A : Type 0} → ◌≡◌ {A = ℕ} 0 1 → A

@@ -1,5 +1,6 @@
 -- Laws of text: what the fields, the code points and the code ask of it. They hold of any rows; `rows` itself is opened only where a fact
 -- about it is computed.
+use Rattle.std.specs.Prelude.{if◌then◌else◌}
 use mathlib.Core.Path.{◌≡◌, refl, ap, ◌∙◌}
 use mathlib.Core.Logic.{◌⊎◌, inl, inr}
 use Prim.Native.Nat.{ℕ, zero, suc, ◌≤◌, ◌<◌}
@@ -9,7 +10,7 @@ use mathlib.Core.List.{List, [], ◌∷◌, ◌++◌}
 use lib.Dec.{leb, ltb}
 use lib.ListN.{take, drop}
 use borrow.Author.Tests.{leb-true, leb-false, le-leb, lt-leb, ltb-true}
-use Rattle.format.specs.Bytes.{if◌then◌else◌, all, between}
+use Rattle.format.specs.Bytes.{all, between}
 use Rattle.format.specs.Text.{Range, ◌to◌, inside, Row, ◌then◌, rows, nothing, after, rows_from, text}
 use Rattle.format.proofs.Tests.{never, and_l, and_r, and_i, and_no, and_left}
 

@@ -1,4 +1,5 @@
 -- What the value of each element is, and how the elements come back from the fields that they are placed in.
+use Rattle.std.specs.Prelude.{if◌then◌else◌}
 use mathlib.Core.Path.{◌≡◌, refl, sym, ap₂, ◌∙◌}
 use mathlib.Core.Logic.{◌⊎◌, inl, inr}
 use Prim.Native.Nat.{ℕ, ◌+◌, ◌*◌, ◌/◌, ◌%◌, ◌≤◌, ◌<◌}
@@ -8,7 +9,7 @@ use mathlib.Core.List.{List, [], ◌∷◌, ◌++◌}
 use lib.Dec.{eqb, leb}
 use lib.ListN.{length, get_or}
 use borrow.Author.Tests.{eqb-true, eq-eqb, ne_eqb, leb-true, le-leb, lt-leb, eqb-false}
-use Rattle.format.specs.Bytes.{if◌then◌else◌, is_empty, all, same, le16, word}
+use Rattle.format.specs.Bytes.{is_empty, all, same, le16, word}
 use Rattle.format.specs.Text.{text}
 use Rattle.format.specs.Fields.{isil, alternate, alternative, is_owner, marker, marked, long, basic_owner}
 use Rattle.format.specs.Elements.{parts_of, ordinal_of, set_bytes, set_info, some_text, required, shape, form, value}

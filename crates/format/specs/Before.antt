@@ -1,9 +1,9 @@
 -- The three calls before document 02, E4, when text was document 01's. What looks at text is written here for any rule of text, and all
 -- else is cited. By the rule of specs/Text.antt these are the calls as they are (`reading-by-text` and the two beside it). By `text_before`
 -- they are the calls as they were: that is to be believed, and that no text is judged but by the rule (`places-opened` tries each place).
-use Rattle.std.specs.Prelude.{ℕ, Bool, not, ◌&&◌, ◌||◌, List, length, get_or, drop, set, leb, eqb}
+use Rattle.std.specs.Prelude.{ℕ, Bool, not, ◌&&◌, ◌||◌, List, length, get_or, drop, set, leb, eqb, if◌then◌else◌}
 use Rattle.format.specs.Answers.{Answer, Step, need, in_order, afterwards}
-use Rattle.format.specs.Bytes.{if◌then◌else◌, is_empty, all, between, filled}
+use Rattle.format.specs.Bytes.{is_empty, all, between, filled}
 use Rattle.format.specs.Pages.{changed}
 use Rattle.format.specs.Fields.{isil_of, isil, alternate, marked, prefix_in}
 use Rattle.format.specs.Chain.{Library, block_of, last_field, library_in}

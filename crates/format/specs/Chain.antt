@@ -1,7 +1,7 @@
 -- The chain of blocks and block 1's fields: document 01, "The chain of blocks".
-use Rattle.std.specs.Prelude.{ℕ, zero, suc, ◌+◌, Bool, true, not, ◌&&◌, ◌||◌, List, [], ◌∷◌, ◌++◌, length, get_or, take, drop, leb, eqb}
+use Rattle.std.specs.Prelude.{ℕ, zero, suc, ◌+◌, Bool, true, not, ◌&&◌, ◌||◌, List, [], ◌∷◌, ◌++◌, length, get_or, take, drop, leb, eqb, if◌then◌else◌}
 use Rattle.format.specs.Answers.{Answer, got, Step, need_at, in_order, and_then}
-use Rattle.format.specs.Bytes.{if◌then◌else◌, is_empty, one_of, le16, word, xor_all, trim, strip, up_to, past}
+use Rattle.format.specs.Bytes.{is_empty, one_of, le16, word, xor_all, trim, strip, up_to, past}
 use Rattle.format.specs.Text.{text}
 use Rattle.format.specs.Fields.{is_owner}
 

@@ -1,7 +1,7 @@
 -- The CRC: document 01, "The first 34 bytes". Polynomial 1021 hex, start FFFF, the high bit of each byte first, no final inversion.
-use Rattle.std.specs.Prelude.{ℕ, zero, suc, ◌*◌, ◌%◌, List, [], ◌∷◌, ◌++◌, take, leb}
+use Rattle.std.specs.Prelude.{ℕ, zero, suc, ◌*◌, ◌%◌, List, [], ◌∷◌, ◌++◌, take, leb, if◌then◌else◌}
 use Rattle.std.specs.Int.Bits.{bit_xor}
-use Rattle.format.specs.Bytes.{if◌then◌else◌, part, pad}
+use Rattle.format.specs.Bytes.{part, pad}
 
 abbrev pub polynomial : ℕ
 polynomial = 0x1021

@@ -1,6 +1,6 @@
 -- The elements: document 01, "Elements".
-use Rattle.std.specs.Prelude.{ℕ, suc, Bool, true, false, not, ◌&&◌, ◌||◌, List, [], ◌∷◌, ◌++◌, map, length, get_or, set, leb, ltb, eqb}
-use Rattle.format.specs.Bytes.{if◌then◌else◌, is_empty, all, word, le16}
+use Rattle.std.specs.Prelude.{ℕ, suc, Bool, true, false, not, ◌&&◌, ◌||◌, List, [], ◌∷◌, ◌++◌, map, length, get_or, set, leb, ltb, eqb, if◌then◌else◌}
+use Rattle.format.specs.Bytes.{is_empty, all, word, le16}
 use Rattle.format.specs.Text.{text}
 use Rattle.format.specs.Fields.{isil, alternative, long}
 use Rattle.format.specs.Chain.{carriable}

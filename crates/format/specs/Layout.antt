@@ -1,6 +1,6 @@
 -- The writer's own layout: document 01, "Elements", from "Placing" on.
-use Rattle.std.specs.Prelude.{ℕ, ◌+◌, ◌-◌, ◌*◌, ◌/◌, ◌%◌, min, Bool, ◌&&◌, ◌||◌, List, [], ◌∷◌, ◌++◌, length, get_or, leb, eqb}
-use Rattle.format.specs.Bytes.{if◌then◌else◌, is_empty, le16, pad, joined}
+use Rattle.std.specs.Prelude.{ℕ, ◌+◌, ◌-◌, ◌*◌, ◌/◌, ◌%◌, min, Bool, ◌&&◌, ◌||◌, List, [], ◌∷◌, ◌++◌, length, get_or, leb, eqb, if◌then◌else◌}
+use Rattle.format.specs.Bytes.{is_empty, le16, pad, joined}
 use Rattle.format.specs.Crc.{crc}
 use Rattle.format.specs.Fields.{long, item_field, basic_owner, owner_field}
 use Rattle.format.specs.Chain.{Library, block_one}

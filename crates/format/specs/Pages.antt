@@ -1,6 +1,6 @@
 -- Sizes and pages: document 01, "Sizes", and the count of pages changed. Everything is over the page size p.
-use Rattle.std.specs.Prelude.{ℕ, zero, suc, ◌*◌, ◌/◌, ◌%◌, ◌<◌, Bool, true, not, ◌&&◌, ◌||◌, ◌≡◌, List, length, get_or, leb, eqb}
-use Rattle.format.specs.Bytes.{if◌then◌else◌, all, same, between, part}
+use Rattle.std.specs.Prelude.{ℕ, zero, suc, ◌*◌, ◌/◌, ◌%◌, ◌<◌, Bool, true, not, ◌&&◌, ◌||◌, ◌≡◌, List, length, get_or, leb, eqb, if◌then◌else◌}
+use Rattle.format.specs.Bytes.{all, same, between, part}
 
 -- a page is 4 bytes
 abbrev pub page_size : ℕ

@@ -1,8 +1,8 @@
 -- What a tag holds: document 01, "The first 34 bytes" and "Elements", "On reading".
-use Rattle.std.specs.Prelude.{ℕ, ◌*◌, ◌/◌, ◌%◌, ◌≡◌, Bool, true, not, ◌&&◌, ◌||◌, List, [], ◌∷◌, get_or, drop, leb, eqb}
+use Rattle.std.specs.Prelude.{ℕ, ◌*◌, ◌/◌, ◌%◌, ◌≡◌, Bool, true, not, ◌&&◌, ◌||◌, List, [], ◌∷◌, get_or, drop, leb, eqb, if◌then◌else◌}
 use Rattle.std.specs.Bool.{beq}
 use Rattle.format.specs.Answers.{Answer, Step, got, need, or_else, passed}
-use Rattle.format.specs.Bytes.{if◌then◌else◌, is_empty, same, le16, part, strip}
+use Rattle.format.specs.Bytes.{is_empty, same, le16, part, strip}
 use Rattle.format.specs.Crc.{crc, covered}
 use Rattle.format.specs.Fields.{alternate, marked, good_item, good_owner, owner_said}
 use Rattle.format.specs.Chain.{Library, chain, block_of, other_blocks, library_in, good_library}

@@ -1,6 +1,6 @@
 -- The sheet: document 01, "The sheet". A header of counts and offsets, then the bytes.
-use Rattle.std.specs.Prelude.{ℕ, zero, suc, ◌+◌, ◌*◌, Bool, true, not, ◌&&◌, ◌||◌, List, [], ◌∷◌, ◌++◌, map, length, get_or, take, drop, leb, ltb, eqb}
-use Rattle.format.specs.Bytes.{if◌then◌else◌, is_empty, all, same, le16, word}
+use Rattle.std.specs.Prelude.{ℕ, zero, suc, ◌+◌, ◌*◌, Bool, true, not, ◌&&◌, ◌||◌, List, [], ◌∷◌, ◌++◌, map, length, get_or, take, drop, leb, ltb, eqb, if◌then◌else◌}
+use Rattle.format.specs.Bytes.{is_empty, all, same, le16, word}
 use Rattle.format.specs.Elements.{Content, numbers, required, form}
 
 pub record Entry : Type 0 where

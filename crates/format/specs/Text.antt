@@ -1,7 +1,7 @@
 -- Text: document 02, E4. Well-formed UTF-8 as RFC 3629 defines it, without 00 to 1F and 7F; nothing else here knows what text is. The RFC's
 -- syntax (section 4) decides. Its code points and their encoding (section 3) stand behind it: `text-exactly` says that both are the same.
-use Rattle.std.specs.Prelude.{ℕ, ◌+◌, ◌/◌, ◌%◌, ◌≡◌, Bool, true, false, not, ◌&&◌, ◌||◌, List, [], ◌∷◌, map, leb, eqb}
-use Rattle.format.specs.Bytes.{if◌then◌else◌, all, between, joined}
+use Rattle.std.specs.Prelude.{ℕ, ◌+◌, ◌/◌, ◌%◌, ◌≡◌, Bool, true, false, not, ◌&&◌, ◌||◌, List, [], ◌∷◌, map, leb, eqb, if◌then◌else◌}
+use Rattle.format.specs.Bytes.{all, between, joined}
 
 -- ---- the syntax
 

@@ -1,6 +1,6 @@
 -- The identifier of a UHF tag and its elements 1, 3 and 4, in their sheet forms: document 02, E5 (source document 003, 6.2).
-use Rattle.std.specs.Prelude.{ℕ, ◌+◌, Bool, true, false, not, ◌&&◌, ◌||◌, List, [], ◌∷◌, ◌++◌, length, drop, get_or, eqb}
-use Rattle.format.specs.Bytes.{if◌then◌else◌, is_empty, same, between}
+use Rattle.std.specs.Prelude.{ℕ, ◌+◌, Bool, true, false, not, ◌&&◌, ◌||◌, List, [], ◌∷◌, ◌++◌, length, drop, get_or, eqb, if◌then◌else◌}
+use Rattle.format.specs.Bytes.{is_empty, same, between}
 use Rattle.format.specs.Elements.{parts_of, ordinal_of, set_bytes, form, value}
 use Rattle.identifier.specs.Parts.{dotless, dotted}
 use Rattle.identifier.specs.SetDigits.{total_in, ordinal_in, says_set, set_part}

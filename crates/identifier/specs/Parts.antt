@@ -1,6 +1,6 @@
 -- A text in parts: document 02, E5. A text is a string of bytes.
-use Rattle.std.specs.Prelude.{ℕ, Bool, not, List, [], ◌∷◌, ◌++◌, eqb}
-use Rattle.format.specs.Bytes.{if◌then◌else◌, all}
+use Rattle.std.specs.Prelude.{ℕ, Bool, not, List, [], ◌∷◌, ◌++◌, eqb, if◌then◌else◌}
+use Rattle.format.specs.Bytes.{all}
 
 abbrev pub dot : ℕ
 dot = 0x2E

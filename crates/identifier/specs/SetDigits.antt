@@ -1,6 +1,6 @@
 -- Set information in digits: document 02, E5 (source document 003, 6.6). Total, then ordinal, as many digits for each.
-use Rattle.std.specs.Prelude.{ℕ, zero, suc, ◌+◌, ◌-◌, ◌*◌, ◌/◌, ◌%◌, Bool, ◌&&◌, List, [], ◌∷◌, ◌++◌, length, take, drop, leb, eqb}
-use Rattle.format.specs.Bytes.{if◌then◌else◌, all, between}
+use Rattle.std.specs.Prelude.{ℕ, zero, suc, ◌+◌, ◌-◌, ◌*◌, ◌/◌, ◌%◌, Bool, ◌&&◌, List, [], ◌∷◌, ◌++◌, length, take, drop, leb, eqb, if◌then◌else◌}
+use Rattle.format.specs.Bytes.{all, between}
 
 abbrev pub digit : ℕ → Bool
 digit c = between 0x30 0x39 c

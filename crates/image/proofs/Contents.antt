@@ -1,4 +1,5 @@
 -- Separated fields as the code has them: how long they are by their lengths, and how they are laid down one by one.
+use Rattle.std.specs.Prelude.{if◌then◌else◌}
 use mathlib.Core.Path.{◌≡◌, refl, sym, ap, ◌∙◌}
 use Prim.Native.Nat.{ℕ, suc, ◌+◌, ◌-◌, ◌≤◌, ◌<◌}
 use mathlib.Core.Logic.{◌⊎◌, inl, inr}
@@ -7,7 +8,7 @@ use mathlib.Core.List.{List, [], ◌∷◌, ◌++◌, map, append-nil, append_as
 use lib.Dec.{eqb}
 use lib.ListN.{length, get_or, drop, length-append}
 use borrow.Author.Tests.{eq-eqb, ne_eqb}
-use Rattle.format.specs.Bytes.{if◌then◌else◌, trim}
+use Rattle.format.specs.Bytes.{trim}
 use Rattle.format.specs.Pieces.{Stored}
 use Rattle.format.specs.Chain.{separated}
 use Rattle.format.proofs.Strings.{rest-opened, trim-some}

@@ -1,4 +1,5 @@
 -- What the elements give the layout, as the code finds it: by the row, by their lengths, and by their values.
+use Rattle.std.specs.Prelude.{if◌then◌else◌}
 use mathlib.Core.Path.{◌≡◌, refl, sym, ap, ap₂, ◌∙◌}
 use mathlib.Core.Logic.{inl, inr}
 use Prim.Native.Nat.{ℕ, zero, suc, ◌+◌, ◌-◌, ◌%◌, ◌≤◌, ◌<◌}
@@ -9,7 +10,7 @@ use mathlib.Core.List.{List, [], ◌∷◌, ◌++◌, map, append_assoc}
 use lib.Dec.{eqb, leb}
 use lib.ListN.{length, drop, get_or, length-append, get_or-map}
 use borrow.Author.Tests.{eqb-false, eq-eqb, ne_eqb, le-leb, lt-leb, leb-true}
-use Rattle.format.specs.Bytes.{if◌then◌else◌, is_empty, all, le16, part, trim}
+use Rattle.format.specs.Bytes.{is_empty, all, le16, part, trim}
 use Rattle.format.specs.Fields.{long, item_field, basic_owner, owner_field}
 use Rattle.format.specs.Chain.{separated, sealed, block_with, Library, library_fields, library_bytes, block_one}
 use Rattle.format.specs.Elements.{places, numbers, place, slot, value, clash}

@@ -1,7 +1,7 @@
 -- The writer's own layout of a row of elements, on a draft: what is answered, and what the draft then holds. The layout is `format`'s.
-use Rattle.std.specs.Prelude.{◌≡◌, ℕ, ◌≤◌, true, not, List, [], ◌∷◌, ◌++◌, leb, length, take, drop, replicate}
+use Rattle.std.specs.Prelude.{◌≡◌, ℕ, ◌≤◌, true, not, List, [], ◌∷◌, ◌++◌, leb, length, take, drop, replicate, if◌then◌else◌}
 use Rattle.format.specs.Answers.{Step, need, in_order, afterwards}
-use Rattle.format.specs.Bytes.{if◌then◌else◌, le16}
+use Rattle.format.specs.Bytes.{le16}
 use Rattle.format.specs.Crc.{crc, covered}
 use Rattle.format.specs.Elements.{numbers, clash, values_at}
 use Rattle.format.specs.Layout.{layout, has_layout}

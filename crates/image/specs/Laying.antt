@@ -1,6 +1,6 @@
 -- Laying elements down on a draft: what the private functions rely on. No rule of document 01 stands here: the layout is `format`'s.
-use Rattle.std.specs.Prelude.{◌≡◌, ◌⊎◌, ℕ, suc, ◌+◌, ◌-◌, ◌≤◌, true, List, [], ◌∷◌, ◌++◌, map, eqb, length, drop, get_or, replicate}
-use Rattle.format.specs.Bytes.{if◌then◌else◌, bytes}
+use Rattle.std.specs.Prelude.{◌≡◌, ◌⊎◌, ℕ, suc, ◌+◌, ◌-◌, ◌≤◌, true, List, [], ◌∷◌, ◌++◌, map, eqb, length, drop, get_or, replicate, if◌then◌else◌}
+use Rattle.format.specs.Bytes.{bytes}
 use Rattle.format.specs.Pieces.{Stored}
 use Rattle.format.specs.Fields.{is_owner, basic_owner}
 use Rattle.format.specs.Chain.{separated}

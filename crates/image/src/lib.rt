@@ -5,8 +5,8 @@ mod basic;
 mod blocks;
 mod sizes;
 
-ghost use Rattle.std.specs.Prelude.{◌≡◌, List, [], ◌++◌, ℕ, ◌<◌, get_or};
-ghost use Rattle.format.specs.Bytes.{if◌then◌else◌, part};
+ghost use Rattle.std.specs.Prelude.{◌≡◌, List, [], ◌++◌, ℕ, ◌<◌, get_or, if◌then◌else◌};
+ghost use Rattle.format.specs.Bytes.{part};
 ghost use Rattle.format.specs.Fields.{long};
 ghost use Rattle.format.specs.Elements.{places, slot, clash};
 ghost use Rattle.format.specs.Layout.{owner_of};

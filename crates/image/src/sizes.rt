@@ -1,6 +1,6 @@
 // Sizes: which owner needs block 1, how long that is, and whether all has room.
-ghost use Rattle.std.specs.Prelude.{◌≡◌, ◌&&◌, ◌||◌, List, ℕ, ◌+◌, ◌%◌, ◌≤◌, eqb, leb, length};
-ghost use Rattle.format.specs.Bytes.{if◌then◌else◌, is_empty, trim};
+ghost use Rattle.std.specs.Prelude.{◌≡◌, ◌&&◌, ◌||◌, List, ℕ, ◌+◌, ◌%◌, ◌≤◌, eqb, leb, length, if◌then◌else◌};
+ghost use Rattle.format.specs.Bytes.{is_empty, trim};
 ghost use Rattle.format.specs.Fields.{basic_owner};
 ghost use Rattle.format.specs.Chain.{separated, block_with};
 ghost use Rattle.format.specs.Layout.{owner_width};

@@ -1,4 +1,5 @@
 -- The pieces that code lays down are together the identifier; and how long they are.
+use Rattle.std.specs.Prelude.{if◌then◌else◌}
 use mathlib.Core.Path.{◌≡◌, refl, sym, ap, ◌∙◌}
 use Prim.Native.Nat.{ℕ, zero, suc, ◌+◌, ◌*◌, ◌/◌, ◌≤◌}
 use native.Mathlib.Omega.{arith}
@@ -7,7 +8,7 @@ use mathlib.Core.List.{List, [], ◌∷◌, ◌++◌, append_assoc, append-nil}
 use lib.ListN.{length, length-append}
 use lib.Dec.{eqb}
 use borrow.Author.Tests.{eq-eqb, ne_eqb}
-use Rattle.format.specs.Bytes.{if◌then◌else◌, is_empty}
+use Rattle.format.specs.Bytes.{is_empty}
 use Rattle.format.specs.Elements.{parts_of, ordinal_of}
 use Rattle.format.proofs.Strings.{is-empty, not-empty}
 use Rattle.identifier.specs.Parts.{dot, dotted}

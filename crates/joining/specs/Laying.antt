@@ -1,7 +1,7 @@
 -- The pieces of an identifier as code lays them down. No rule of document 02 stands here; proofs/Pieces.antt says that together they are the
 -- identifier.
-use Rattle.std.specs.Prelude.{ℕ, List, [], ◌∷◌, ◌++◌, eqb}
-use Rattle.format.specs.Bytes.{if◌then◌else◌, is_empty}
+use Rattle.std.specs.Prelude.{ℕ, List, [], ◌∷◌, ◌++◌, eqb, if◌then◌else◌}
+use Rattle.format.specs.Bytes.{is_empty}
 use Rattle.identifier.specs.Parts.{dot}
 use Rattle.identifier.specs.SetDigits.{set_part}
 

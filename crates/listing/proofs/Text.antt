@@ -1,4 +1,5 @@
 -- Laws of numbers in decimal, of hex and of lines: how they are put together, and how long they are.
+use Rattle.std.specs.Prelude.{if◌then◌else◌}
 use mathlib.Core.Path.{◌≡◌, refl, ap, ap₂, ◌∙◌}
 use Prim.Native.Nat.{ℕ, suc, ◌+◌, ◌-◌, ◌*◌, ◌/◌, ◌%◌, ◌≤◌, ◌<◌}
 use native.Mathlib.Omega.{arith}
@@ -9,7 +10,6 @@ use lib.Dec.{leb}
 use lib.ListN.{length, take, get_or, length-append}
 use lib.Seq.{take-suc}
 use borrow.Author.Tests.{le-leb, lt-leb, leb-true, leb-false}
-use Rattle.format.specs.Bytes.{if◌then◌else◌}
 use Rattle.listing.specs.Listing.{digits, decimal, leading, hex_digit, hex_of, line_of, counted}
 
 -- ---- decimal

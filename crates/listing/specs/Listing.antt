@@ -1,7 +1,6 @@
 -- What `taglist` prints: document 01, "Pairs to try", from "With that tag on standard input" on. Text is a string of bytes.
-use Rattle.std.specs.Prelude.{ℕ, zero, suc, ◌+◌, ◌/◌, ◌%◌, List, [], ◌∷◌, ◌++◌, length, leb}
+use Rattle.std.specs.Prelude.{ℕ, zero, suc, ◌+◌, ◌/◌, ◌%◌, List, [], ◌∷◌, ◌++◌, length, leb, if◌then◌else◌}
 use Rattle.format.specs.Answers.{Refusal, plain, placed, got, refused, Step, in_order}
-use Rattle.format.specs.Bytes.{if◌then◌else◌}
 use Rattle.format.specs.Pages.{page_size}
 use Rattle.format.specs.Sheet.{Entry, entries}
 use Rattle.format.specs.Reading.{content_in}

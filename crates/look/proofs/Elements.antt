@@ -1,4 +1,5 @@
 -- The elements of a readable tag, each at its place of the row.
+use Rattle.std.specs.Prelude.{if◌then◌else◌}
 use mathlib.Core.Path.{◌≡◌, refl, sym, ap, ap₂, ◌∙◌}
 use Prim.Native.Nat.{ℕ, ◌+◌, ◌≤◌}
 use native.Mathlib.Nat.{add-zero, add_assoc}
@@ -10,7 +11,7 @@ use lib.Seq.{take_at, get_or-take, get_or-drop}
 use lib.Dec.{eqb}
 use borrow.Author.Tests.{eqb-false}
 use Rattle.format.specs.declared.Part.{Part}
-use Rattle.format.specs.Bytes.{if◌then◌else◌, is_empty, part, bytes, filled}
+use Rattle.format.specs.Bytes.{is_empty, part, bytes, filled}
 use Rattle.format.specs.Pieces.{from, nowhere, Held}
 use Rattle.format.specs.Fields.{hyphen, alternate, owner_said}
 use Rattle.format.specs.Chain.{block_of}

@@ -1,4 +1,5 @@
 -- What looking at a tag tells its callers.
+use Rattle.std.specs.Prelude.{if◌then◌else◌}
 use mathlib.Core.Path.{◌≡◌, refl, sym}
 use mathlib.Core.Logic.{inl, inr}
 use Prim.Native.Nat.{ℕ, ◌+◌, ◌≤◌}
@@ -10,7 +11,7 @@ use lib.Dec.{eqb}
 use borrow.Author.Tests.{eqb-true, eqb-false, eq-eqb}
 use Rattle.format.specs.declared.Part.{Part}
 use Rattle.format.specs.Answers.{got}
-use Rattle.format.specs.Bytes.{if◌then◌else◌, part, bytes, joined, filled}
+use Rattle.format.specs.Bytes.{part, bytes, joined, filled}
 use Rattle.format.specs.Pages.{page_size, good_size}
 use Rattle.format.specs.Pieces.{from, nowhere, Held}
 use Rattle.format.specs.Chain.{block_of, other_blocks}

@@ -1,9 +1,9 @@
 -- Where a tag that passes every step has its elements: document 01, "The first 34 bytes" and "The chain of blocks". Which bytes are an
 -- element is said by `format`'s rules; here stand the places. What a sheet has in another form than the tag is made, and stands behind
 -- the tag: set information, usage, and an ISIL with its hyphen.
-use Rattle.std.specs.Prelude.{◌≡◌, ℕ, ◌+◌, ◌*◌, ◌≤◌, not, ◌&&◌, ◌||◌, List, [], ◌∷◌, ◌++◌, map, length, get_or, take, drop, set, eqb}
+use Rattle.std.specs.Prelude.{◌≡◌, ℕ, ◌+◌, ◌*◌, ◌≤◌, not, ◌&&◌, ◌||◌, List, [], ◌∷◌, ◌++◌, map, length, get_or, take, drop, set, eqb, if◌then◌else◌}
 use Rattle.format.specs.declared.Part.{Part}
-use Rattle.format.specs.Bytes.{if◌then◌else◌, part}
+use Rattle.format.specs.Bytes.{part}
 use Rattle.format.specs.Pieces.{from, nowhere}
 use Rattle.format.specs.Fields.{hyphen, alternate}
 use Rattle.format.specs.Elements.{place}

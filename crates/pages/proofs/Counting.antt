@@ -1,4 +1,5 @@
 -- Laws of counts, and of the locked pages that would get other bytes, over the page size p.
+use Rattle.std.specs.Prelude.{if◌then◌else◌}
 use mathlib.Core.Path.{◌≡◌, refl, sym, ap}
 use Prim.Native.Nat.{ℕ, zero, suc, ◌+◌, ◌/◌, ◌≤◌, ◌<◌}
 use native.Mathlib.Nat.{not-suc-le-zero}
@@ -9,7 +10,7 @@ use mathlib.Core.List.{List, [], ◌∷◌}
 use lib.Dec.{eqb, ltb}
 use lib.ListN.{length, get_or-eq_default}
 use borrow.Author.Tests.{eq-eqb, ne_eqb, ltb-true, ltb-false}
-use Rattle.format.specs.Bytes.{if◌then◌else◌, all}
+use Rattle.format.specs.Bytes.{all}
 use Rattle.format.specs.Pages.{locked, differs, locked_differs, count, locked_changed}
 use Rattle.format.proofs.Tests.{never, and_l, and_r, and_i, not_t, not_f}
 use Rattle.format.proofs.Paging.{count-zero, zero-count}

@@ -1,8 +1,8 @@
 -- Storing an image on a tag, page by page: the last step of writing and editing. Document 01, "Numbers given back", 12 Locked, and the
 -- count of pages changed. The tests and the count are `format`'s. `p` is the page size.
-use Rattle.std.specs.Prelude.{ℕ, ◌+◌, ◌*◌, ◌/◌, ◌≤◌, ◌≡◌, Bool, not, List, [], ◌∷◌, ◌++◌, length, take, drop, get_or, eqb, ltb}
+use Rattle.std.specs.Prelude.{ℕ, ◌+◌, ◌*◌, ◌/◌, ◌≤◌, ◌≡◌, Bool, not, List, [], ◌∷◌, ◌++◌, length, take, drop, get_or, eqb, ltb, if◌then◌else◌}
 use Rattle.format.specs.Answers.{Step, need, in_order}
-use Rattle.format.specs.Bytes.{if◌then◌else◌, part}
+use Rattle.format.specs.Bytes.{part}
 use Rattle.format.specs.Pages.{page_size, differs, count, locked_changed}
 
 -- 1 where the image is not as long as the tag t, 12 where a locked page would get other bytes

@@ -1,4 +1,5 @@
 -- Where code finds the parts of an identifier, there they are.
+use Rattle.std.specs.Prelude.{if◌then◌else◌}
 use mathlib.Core.Path.{◌≡◌, refl, sym, ap, ◌∙◌}
 use Prim.Native.Nat.{ℕ, ◌+◌, ◌≤◌, ◌<◌}
 use native.Mathlib.Omega.{arith}
@@ -7,7 +8,7 @@ use mathlib.Core.List.{List, [], ◌∷◌}
 use lib.ListN.{length, drop, get_or, drop_of_length-le}
 use lib.Seq.{drop-drop}
 use lib.Dec.{eqb}
-use Rattle.format.specs.Bytes.{if◌then◌else◌, up_to, past}
+use Rattle.format.specs.Bytes.{up_to, past}
 use Rattle.format.proofs.Strings.{rest-opened}
 use Rattle.format.proofs.Text.{between-facts}
 use Rattle.fields.proofs.Places.{past-drop}

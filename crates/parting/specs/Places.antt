@@ -1,7 +1,7 @@
 -- Where code finds the parts of an identifier. No rule of document 02 stands here; proofs/Finding.antt and Cutting.antt say that these are the parts.
-use Rattle.std.specs.Prelude.{◌≡◌, ℕ, ◌+◌, ◌≤◌, Bool, ◌&&◌, List, [], ◌∷◌, length, take, drop, leb}
+use Rattle.std.specs.Prelude.{◌≡◌, ℕ, ◌+◌, ◌≤◌, Bool, ◌&&◌, List, [], ◌∷◌, length, take, drop, leb, if◌then◌else◌}
 use Rattle.format.specs.Answers.{Answer, plain, got, refused, need, in_order}
-use Rattle.format.specs.Bytes.{if◌then◌else◌, up_to, past}
+use Rattle.format.specs.Bytes.{up_to, past}
 use Rattle.identifier.specs.Parts.{dot, dotless, parts}
 use Rattle.identifier.specs.Elements.{right_count}
 use Rattle.parting.specs.declared.places.Cut.{Cut}

@@ -1,9 +1,9 @@
 -- Rendering: the entries that a sheet is made of, and what is answered. The sheet itself is document 01's ("The sheet"), as `format`
 -- defines it.
-use Rattle.std.specs.Prelude.{◌≡◌, true, ℕ, ◌+◌, ◌≤◌, List, [], ◌∷◌, ◌++◌, length, leb, eqb}
+use Rattle.std.specs.Prelude.{◌≡◌, true, ℕ, ◌+◌, ◌≤◌, List, [], ◌∷◌, ◌++◌, length, leb, eqb, if◌then◌else◌}
 use Rattle.format.specs.Elements.{places}
 use Rattle.format.specs.Answers.{Answer, got, need, in_order, afterwards}
-use Rattle.format.specs.Bytes.{if◌then◌else◌, bytes, le16, joined, filled}
+use Rattle.format.specs.Bytes.{bytes, le16, joined, filled}
 use Rattle.format.specs.Chain.{other_blocks}
 use Rattle.format.specs.Numbers.{answer_given}
 use Rattle.format.specs.Reading.{walked, blocks_in}

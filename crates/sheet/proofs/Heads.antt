@@ -1,5 +1,6 @@
 -- A sheet is right exactly if its heads, taken one after the other, name numbers that rise and the offsets that come, and its bytes
 -- end with the last: what the code tests, against what the definition says.
+use Rattle.std.specs.Prelude.{if◌then◌else◌}
 use mathlib.Core.Path.{◌≡◌, refl, sym, ap, ap₂, ◌∙◌}
 use Prim.Native.Nat.{ℕ, zero, suc, ◌+◌, ◌*◌, ◌≤◌, ◌<◌}
 use native.Mathlib.Numerals.{add-one}
@@ -10,7 +11,7 @@ use lib.Dec.{leb, ltb, eqb}
 use lib.ListN.{length, take, drop, get_or, length-append, length-drop, take-append-drop}
 use lib.Seq.{length-take-le, drop-cons, drop-drop}
 use borrow.Author.Tests.{leb-true, le-leb, lt-leb, eqb-true, eqb-false, eq-eqb, le-ltb}
-use Rattle.format.specs.Bytes.{if◌then◌else◌, bytes, same, le16, word}
+use Rattle.format.specs.Bytes.{bytes, same, le16, word}
 use Rattle.format.specs.Sheet.{Entry, heads, bodies, sheet_of, offsets_fit, fitting, rising_from, rising, cut, body_at, count_in, entries_in, right_sheet}
 use Rattle.format.proofs.Tests.{never, same_truth, and_l, and_r, and_i, or_r, all_drop, bytes-at, same_refl, same-eq}
 use Rattle.format.proofs.Strings.{word-le16, le16-word, nil-of, opened}

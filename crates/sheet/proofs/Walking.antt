@@ -1,5 +1,6 @@
 -- What the loops over a sheet's entries know at each turn, and how a turn keeps it. `i` is the entry that comes, `at` is where its
 -- bytes begin.
+use Rattle.std.specs.Prelude.{if◌then◌else◌}
 use mathlib.Core.Path.{◌≡◌, refl, sym, ap, ap₂, ◌∙◌}
 use Prim.Native.Nat.{ℕ, suc, ◌+◌, ◌-◌, ◌≤◌, ◌<◌}
 use native.Mathlib.Nat.{sub-zero, add-zero}
@@ -11,7 +12,7 @@ use lib.Dec.{leb, eqb}
 use lib.ListN.{length, take, drop, set, get_or, length-append, length-set, drop_of_length-le}
 use lib.Seq.{drop-cons, drop-drop, take_at, drop_at, get_or-drop, take-suc-set, append_snoc, take_all}
 use borrow.Author.Tests.{le-leb, lt-leb, eqb-true, eq-eqb, ne_eqb}
-use Rattle.format.specs.Bytes.{if◌then◌else◌, is_empty, all, bytes, le16, word, part}
+use Rattle.format.specs.Bytes.{is_empty, all, bytes, le16, word, part}
 use Rattle.format.specs.Elements.{places, numbers, set_info, shape, form}
 use Rattle.format.specs.Sheet.{Entry, heads, bodies, body_at, count_in, entries_in, right_sheet, find, formed, good_values}
 use Rattle.format.proofs.Tests.{never}

@@ -1,7 +1,6 @@
 -- Where the elements stand in a sheet, and what judging one answers: document 01, "The sheet", with its refusals 8 and 9 in order.
-use Rattle.std.specs.Prelude.{◌≡◌, ℕ, ◌+◌, List, [], ◌∷◌, length, eqb}
+use Rattle.std.specs.Prelude.{◌≡◌, ℕ, ◌+◌, List, [], ◌∷◌, length, eqb, if◌then◌else◌}
 use Rattle.format.specs.Answers.{Answer, need, in_order, afterwards}
-use Rattle.format.specs.Bytes.{if◌then◌else◌}
 use Rattle.format.specs.Elements.{numbers}
 use Rattle.format.specs.Numbers.{answer_given}
 use Rattle.format.specs.Sheet.{Entry, body_at, count_in, entries_in, right_sheet, good_values}

@@ -1,5 +1,6 @@
 -- A word, case by case: what the theorems and the code cite. The arithmetic stands here once: the values that made a word are what division
 -- and remainder find in it.
+use Rattle.std.specs.Prelude.{if◌then◌else◌}
 use mathlib.Core.Path.{◌≡◌, refl, sym, ap, ◌∙◌}
 use Prim.Native.Nat.{ℕ, zero, suc, ◌-◌, ◌/◌, ◌%◌, ◌≤◌, ◌<◌}
 use native.Mathlib.Nat.{suc-ne-zero}
@@ -8,7 +9,7 @@ use mathlib.Core.Bool.{true, false, not}
 use mathlib.Core.List.{List, [], ◌∷◌, ◌++◌, append_assoc}
 use lib.Dec.{leb, eqb}
 use borrow.Author.Tests.{eqb-true, eq-eqb, ne_eqb, leb-true, leb-false}
-use Rattle.format.specs.Bytes.{if◌then◌else◌, is_empty, all, trim, strip}
+use Rattle.format.specs.Bytes.{is_empty, all, trim, strip}
 use Rattle.format.proofs.Tests.{never}
 use Rattle.format.proofs.Text.{between-i, between-over, between-under}
 use Rattle.words.specs.Code40.{character_of, word_of, holding, characters_at, unpadded, characters_of, meaningful, text_of}

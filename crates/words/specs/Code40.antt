@@ -1,6 +1,6 @@
 -- URN Code 40: document 02, E2 (source document 002, 7.3.7). A word is a number of sixteen bits, a text a string of bytes.
-use Rattle.std.specs.Prelude.{ℕ, ◌+◌, ◌-◌, ◌*◌, ◌/◌, ◌%◌, Bool, not, List, [], ◌∷◌, ◌++◌, leb, eqb}
-use Rattle.format.specs.Bytes.{if◌then◌else◌, is_empty, all, between, strip}
+use Rattle.std.specs.Prelude.{ℕ, ◌+◌, ◌-◌, ◌*◌, ◌/◌, ◌%◌, Bool, not, List, [], ◌∷◌, ◌++◌, leb, eqb, if◌then◌else◌}
+use Rattle.format.specs.Bytes.{is_empty, all, between, strip}
 
 -- ---- the 39 characters
 

@@ -1,10 +1,10 @@
 -- `chain::damage_by` meets its contract: it makes the tests of `damage_by` in its order.
+use Rattle.std.specs.Prelude.{if◌then◌else◌}
 use mathlib.Core.Logic.{⊎_elim}
 use mathlib.Core.Path.{◌≡◌, sym, ◌∙◌}
 use mathlib.Core.Bool.{false, ◌&&◌}
 use lib.Dec.{eqb}
 use borrow.Author.Tests.{le-leb, lt-leb, eq-eqb, ne_eqb}
-use Rattle.format.specs.Bytes.{if◌then◌else◌}
 use Rattle.format.proofs.Tests.{and_left, and_no}
 use Rattle.chain.specs.Formed.{damage_by}
 use Rattle.chain.proofs.damage_by.Goals.{Else-x-n}

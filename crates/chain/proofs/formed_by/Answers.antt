@@ -1,9 +1,9 @@
 -- `chain::formed_by` meets its contract: it makes the tests of `formed_by` in its order.
+use Rattle.std.specs.Prelude.{if◌then◌else◌}
 use mathlib.Core.Path.{◌≡◌, refl, sym, ◌∙◌}
 use mathlib.Core.Bool.{true, false}
 use lib.Dec.{eqb, leb}
 use borrow.Author.Tests.{le-leb, lt-leb, eq-eqb, ne_eqb}
-use Rattle.format.specs.Bytes.{if◌then◌else◌}
 use Rattle.format.proofs.Tests.{and_no}
 use Rattle.chain.specs.Formed.{damage_by, formed_by}
 use Rattle.chain.proofs.formed_by.Goals.{After-id_of-id}

@@ -1,5 +1,6 @@
 -- `chain::survey_of` meets its contract. The block loop: the survey of what is ahead, with what was found before, is the survey of the tag.
 -- The byte loop: the bytes behind byte k, with the XOR so far, come to the XOR of all behind the first.
+use Rattle.std.specs.Prelude.{if◌then◌else◌}
 use mathlib.Core.Path.{◌≡◌, refl, sym, ap, ap₂, ◌∙◌}
 use mathlib.Core.Bool.{true, false, not, ◌&&◌}
 use mathlib.Core.List.{List, []}
@@ -11,7 +12,7 @@ use lib.ListN.{length, get_or, drop, length-take}
 use borrow.Author.Tests.{le-leb, lt-leb, ne_eqb}
 use Rattle.format.specs.declared.Part.{Part}
 use Rattle.format.specs.Answers.{Answer, placed, got, refused}
-use Rattle.format.specs.Bytes.{if◌then◌else◌, one_of, xor_all}
+use Rattle.format.specs.Bytes.{one_of, xor_all}
 use Rattle.format.specs.Pieces.{from}
 use Rattle.format.specs.Chain.{length_of, id_of, structured, single, damage_of}
 use Rattle.format.specs.Damage.{block_at}

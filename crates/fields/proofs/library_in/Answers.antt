@@ -1,4 +1,5 @@
 -- Block 1 is judged by its parts, once they are in hand.
+use Rattle.std.specs.Prelude.{if◌then◌else◌}
 use mathlib.Core.Path.{◌≡◌, sym, ◌∙◌}
 use Prim.Native.Nat.{ℕ, ◌+◌}
 use mathlib.Core.Bool.{Bool, true, ◌&&◌, ◌||◌}
@@ -6,7 +7,7 @@ use mathlib.Core.List.{List, map}
 use borrow.Author.Tests.{le-leb, lt-leb}
 use lib.Dec.{leb}
 use lib.ListN.{length, take, drop, get_or}
-use Rattle.format.specs.Bytes.{if◌then◌else◌, is_empty, strip, past}
+use Rattle.format.specs.Bytes.{is_empty, strip, past}
 use Rattle.format.specs.Text.{text}
 use Rattle.format.specs.Fields.{is_owner}
 use Rattle.format.specs.Chain.{payload, fields_in, beyond, library_in, good_library}

@@ -1,4 +1,5 @@
 -- Where the field is neither empty nor marked, its third byte decides.
+use Rattle.std.specs.Prelude.{if◌then◌else◌}
 use mathlib.Core.Path.{◌≡◌, sym, ◌∙◌}
 use Prim.Native.Nat.{ℕ, ◌≤◌, ◌<◌}
 use mathlib.Core.Bool.{Bool, true, false, not, or-true}
@@ -6,7 +7,7 @@ use mathlib.Core.List.{List}
 use borrow.Author.Tests.{le-leb, lt-leb, ne_eqb}
 use lib.Dec.{eqb}
 use lib.ListN.{length, drop, get_or}
-use Rattle.format.specs.Bytes.{if◌then◌else◌, is_empty, same, strip}
+use Rattle.format.specs.Bytes.{is_empty, same, strip}
 use Rattle.format.specs.Fields.{alternative, marker, marked, prefix_in, isil_of, good_owner}
 use Rattle.format.proofs.Tests.{same-eq}
 use Rattle.format.proofs.Strings.{nil-of, not-empty}

@@ -1,4 +1,5 @@
 -- `image::draft` meets its contract: 10 and 11 in order, and then the layout piece by piece.
+use Rattle.std.specs.Prelude.{if◌then◌else◌}
 use mathlib.Core.Path.{◌≡◌, refl, sym, ap, ◌∙◌}
 use Prim.Native.Nat.{ℕ, ◌+◌, ◌<◌}
 use native.Mathlib.Omega.{arith}
@@ -6,7 +7,7 @@ use mathlib.Core.Bool.{Bool, true, false, ◌&&◌, ◌||◌}
 use mathlib.Core.List.{List, [], ◌∷◌, ◌++◌}
 use lib.Dec.{leb}
 use lib.ListN.{length, get_or}
-use Rattle.format.specs.Bytes.{if◌then◌else◌, is_empty, part, trim}
+use Rattle.format.specs.Bytes.{is_empty, part, trim}
 use Rattle.format.specs.Fields.{basic_owner}
 use Rattle.format.specs.Answers.{need, in_order, afterwards}
 use Rattle.format.specs.Chain.{separated, block_with, block_one}

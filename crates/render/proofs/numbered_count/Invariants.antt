@@ -1,8 +1,8 @@
 -- `render::numbered_count` meets its contract: n of the lengths before place k are not 0.
+use Rattle.std.specs.Prelude.{if◌then◌else◌}
 use Prim.Native.Nat.{ℕ, ◌-◌}
 use lib.Dec.{eqb}
 use lib.ListN.{length}
-use Rattle.format.specs.Bytes.{if◌then◌else◌}
 use Rattle.render.proofs.Lengths.{Summing}
 use Rattle.render.proofs.numbered_count.Given as goal
 

@@ -1,11 +1,12 @@
 -- `image::basic::put_front` meets its contract: three bytes, and the item field's filling is there already.
+use Rattle.std.specs.Prelude.{if◌then◌else◌}
 use mathlib.Core.Path.{◌≡◌, ap₂}
 use Prim.Native.Nat.{ℕ, ◌+◌, ◌-◌, ◌*◌, ◌/◌, ◌≤◌, ◌<◌}
 use native.Mathlib.Omega.{arith}
 use mathlib.Core.List.{List, [], ◌∷◌, ◌++◌}
 use lib.ListN.{length, get_or, set, length-set}
 use borrow.Author.Tests.{le-leb, lt-leb}
-use Rattle.format.specs.Bytes.{if◌then◌else◌, pad_with, pad}
+use Rattle.format.specs.Bytes.{pad_with, pad}
 use Rattle.format.specs.Fields.{marker, long, item_field}
 use Rattle.format.specs.Layout.{first_byte}
 use Rattle.format.specs.Pieces.{Stored}

@@ -1,11 +1,12 @@
 -- `image::basic::put_owner` meets its contract: each form of the owner field, whose filling is there already.
+use Rattle.std.specs.Prelude.{if◌then◌else◌}
 use mathlib.Core.Path.{◌≡◌, sym, ap, ◌∙◌}
 use Prim.Native.Nat.{ℕ, ◌+◌, ◌-◌, ◌≤◌}
 use native.Mathlib.Omega.{arith}
 use mathlib.Core.Bool.{Bool, true, false, ◌||◌}
 use mathlib.Core.List.{List, [], ◌∷◌}
 use lib.ListN.{length, set}
-use Rattle.format.specs.Bytes.{if◌then◌else◌, is_empty, pad_with, pad}
+use Rattle.format.specs.Bytes.{is_empty, pad_with, pad}
 use Rattle.format.specs.Fields.{marker, alternate, packed, basic_owner, owner_field}
 use Rattle.format.specs.Layout.{owner_width}
 use Rattle.format.specs.Pieces.{Stored}

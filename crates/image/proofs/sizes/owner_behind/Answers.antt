@@ -1,10 +1,11 @@
 -- `image::sizes::owner_behind` meets its contract.
+use Rattle.std.specs.Prelude.{if◌then◌else◌}
 use mathlib.Core.Path.{◌≡◌, sym, ap, ◌∙◌}
 use Prim.Native.Nat.{ℕ}
 use mathlib.Core.Bool.{Bool, true, false, ◌||◌}
 use mathlib.Core.List.{List}
 use lib.ListN.{length}
-use Rattle.format.specs.Bytes.{if◌then◌else◌, is_empty}
+use Rattle.format.specs.Bytes.{is_empty}
 use Rattle.format.specs.Fields.{basic_owner}
 use Rattle.image.proofs.sizes.owner_behind.Goals as goal
 
