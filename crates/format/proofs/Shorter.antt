@@ -14,7 +14,7 @@ use Rattle.format.specs.Pages.{good_size}
 use Rattle.format.specs.Fields.{isil_of, hyphen, blank, alternate, alternative, marked, prefix_in, owner_said, good_owner, long, packed, basic_owner}
 use Rattle.format.specs.Chain.{taken_apart, block_of, other_blocks, Library, payload, fields_in, beyond, separated, block_with, last_field, library_in, library_fields, library_bytes, block_one}
 use Rattle.format.specs.Elements.{Content}
-use Rattle.format.specs.Layout.{owner_width, owner_of, library, basic, own_blocks, laid_out, fits, has_layout}
+use Rattle.format.specs.Layout.{owner_width, owner_of, usage_of, library, basic, own_blocks, laid_out, fits, has_layout}
 use Rattle.format.specs.Reading.{main_usage, item_in, owner_in, blocks_in, library_on, owner_on, content_in, Readable}
 use Rattle.format.proofs.Tests.{never, beq-false, and_i, or_r}
 use Rattle.format.proofs.Strings.{some-behind, part_length, strip-length, trim-drop, strip-strip, length-pad, up-to-before, past-before}
@@ -85,6 +85,10 @@ said-basic w t e m l = elim (said-cases t e) [
 ]
 
 -- ---- the fields of block 1 that are laid down again
+
+library-usage : (n : ℕ) (ss : List (List ℕ)) → (library n ss).usage ≡ (if eqb (usage_of ss % 16) 0 then 0 else usage_of ss)
+unfolding library
+library-usage n ss = refl
 
 module _ (t : List ℕ) (r : Readable t) where
   abbrev c : Content
@@ -161,11 +165,15 @@ module _ (t : List ℕ) (r : Readable t) where
       go [] e = inr (rw (said-basic (owner_width n) (owner_in t) (fields-parts t r.fields).owner (unmarked e) l))
       go (x ∷ fo) e = keep (x ∷ fo) (basic_owner (owner_width n) (x ∷ fo))
 
+  less-again : (n : ℕ) → (trim (again n).usage [] ≡ trim f.usage []) ⊎ (trim (again n).usage [] ≡ [])
+  unfolding again content_in
+  less-again n = rw (library-usage n c.slots) (less-usage (main_usage t) f.usage)
+
   again-fewer : (n : ℕ) → length (owner_in t) ≤ owner_width n → Fewer (library_fields (again n)) (library_fields f)
   unfolding again library content_in
   again-fewer n l =
       next (less-item (item_in t) f.item (omega (arith, strip-length (part 3 16 t), part_length 3 16 t)))
-      (next (less-owner n l) (next (less-usage (main_usage t) f.usage) none))
+      (next (less-owner n l) (next (less-again n) none))
 
   -- block 1 is no longer than it was
   pub block-shorter : (n : ℕ) → length (owner_in t) ≤ owner_width n → length (block_one (library n (content_in t).slots)) ≤ length (block_of 1 (blocks_in t))
