@@ -106,7 +106,8 @@ fn damage_by(n: usize, id: usize, x: u8, seen: bool) -> u32
     if x as usize != n {
         return 18;
     }
-    if id == 1 && seen {
+    let single = id == 1;
+    if single && seen {
         return 19;
     }
     0

@@ -60,7 +60,8 @@ fn judge(words: &[u16], room: usize) -> NumberAnswer
     let mut i: usize = 0;
     while i < words.len() {
         let k = count_characters(words[i]);
-        if k == 0 {
+        let meaningless = k == 0;
+        if meaningless {
             return NumberAnswer::Refused(20);
         }
         n += k;

@@ -15,7 +15,8 @@ pub fn fields_size(lens: &[usize]) -> usize
     let mut k = lens.len();
     while 0 < k {
         k -= 1;
-        if size != 0 {
+        let followed = size != 0;
+        if followed {
             size += 1;
         }
         size += lens[k];

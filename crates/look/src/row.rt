@@ -121,7 +121,8 @@ pub fn one_piece(library: Part, size: usize, end: usize) -> Part
     if size == 0 {
         return nowhere();
     }
-    if library.len != 0 && library.at != 34 {
+    let there = library.len != 0;
+    if there && library.at != 34 {
         return nowhere();
     }
     if 34 + library.len + size != end {

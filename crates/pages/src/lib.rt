@@ -120,7 +120,8 @@ fn locked_differs(image: &[u8], tag: &[u8], locks: &[u8]) -> bool
     let pages = tag.len() / PAGE;
     let mut i = 0;
     while i < pages && i < locks.len() {
-        if locks[i] == 1 {
+        let locked = locks[i] == 1;
+        if locked {
             if page_differs(tag, image, i) {
                 return true;
             }

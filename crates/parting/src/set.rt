@@ -70,7 +70,8 @@ fn read_set(part: &[u8]) -> SetAnswer
     let half = part.len() / 2;
     let total = number_in(&part[0..half]);
     let ordinal = number_in(&part[half..]);
-    if total < 1 {
+    let empty = total < 1;
+    if empty {
         return SetAnswer::Refused(6);
     }
     if 255 < total {

@@ -28,10 +28,10 @@ unfolding damage_by
 decided c = rw (ne_eqb _ 0 c.if-id-eq0.false, le-leb 4 _ c.if-n-lt4.false, eq-eqb _ _ c.if-x-n.false)
 
 pub returns-then-seen : goal.returns-then-seen
-returns-then-seen c = sym (decided (goal.at.returns-then-seen c).Else-x-n ∙ rw (eq-eqb _ 1 c.if-id-eq1.true, c.if-seen.true))
+returns-then-seen c = sym (decided (goal.at.returns-then-seen c).Else-x-n ∙ rw (eq-eqb _ 1 c.if-single.true, c.if-seen.true))
 
 pub returns : goal.returns
 returns c =
     let a = c.args in
-    let none : eqb a.id 1 && a.seen ≡ false = ⊎_elim (λ w. and_no (eqb a.id 1) _ w.1) (λ w. and_left (eqb a.id 1) _ (ne_eqb _ 1 w)) c.else-id-eq1.either in
+    let none : eqb a.id 1 && a.seen ≡ false = ⊎_elim (λ w. and_no (eqb a.id 1) _ w.1) (λ w. and_left (eqb a.id 1) _ (ne_eqb _ 1 w)) c.else-single.either in
     sym (decided (goal.at.returns c).Else-x-n ∙ rw none)

@@ -9,17 +9,17 @@ use Rattle.words.proofs.Outcomes.{answer-bad, answer-short, answer-good}
 use Rattle.decoding.proofs.Judging.{judging-on, judging-not, judging-all}
 use Rattle.decoding.proofs.judge.Goals as goal
 
-pub returns-then-k-eq0 : goal.returns-then-k-eq0
+pub returns-then-meaningless : goal.returns-then-meaningless
 unfolding decode_steps
-returns-then-k-eq0 c =
+returns-then-meaningless c =
     let a = c.args in
     let ws = a.words.now in
-    sym (answer-bad 20 (all meaningful ws) a.room (text_of ws) (judging-not c.loop-i.invariant c.loop-i-test.true c.count_characters-k.ensures.0 c.if-k-eq0.true))
+    sym (answer-bad 20 (all meaningful ws) a.room (text_of ws) (judging-not c.loop-i.invariant c.loop-i-test.true c.count_characters-k.ensures.0 c.if-meaningless.true))
 
 pub loop-i-preserved : goal.loop-i-preserved
 loop-i-preserved c =
     let k = c.count_characters-k.ensures in
-    judging-on c.loop-i.invariant c.loop-i-test.true k.0 k.1 c.if-k-eq0.false
+    judging-on c.loop-i.invariant c.loop-i-test.true k.0 k.1 c.if-meaningless.false
 
 pub returns-then-room-n : goal.returns-then-room-n
 unfolding decode_steps

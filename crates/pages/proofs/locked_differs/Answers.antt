@@ -7,7 +7,7 @@ use borrow.Author.Tests.{eq-eqb, ne_eqb, ltb-false}
 use Rattle.format.specs.Pages.{page_size, locked, differs, locked_differs}
 use Rattle.format.proofs.Tests.{and_no}
 use Rattle.pages.proofs.Counting.{one-locked, none-locked, open-beyond}
-use Rattle.pages.proofs.locked_differs.Goals.{then-locks-i-eq1+else-page_differs, else-locks-i-eq1}
+use Rattle.pages.proofs.locked_differs.Goals.{then-locked+else-page_differs, else-locked}
 use Rattle.pages.proofs.locked_differs.Goals as goal
 
 pub loop-i-init : goal.loop-i-init
@@ -16,7 +16,7 @@ loop-i-init c = (omega arith, below_none _)
 pub returns-then-page_differs : goal.returns-then-page_differs
 returns-then-page_differs c =
     let a = c.args in
-    one-locked page_size a.locks.now a.tag.now a.image.now c.loop-i.i (omega arith) (eq-eqb _ 1 c.if-locks-i-eq1.true)
+    one-locked page_size a.locks.now a.tag.now a.image.now c.loop-i.i (omega arith) (eq-eqb _ 1 c.if-locked.true)
     (sym c.page_differs.ensures ∙ c.if-page_differs.true)
 
 pub loop-i-preserved : goal.loop-i-preserved
@@ -26,9 +26,9 @@ loop-i-preserved c =
     let l = c.loop-i in (
       omega arith,
       below_more _ l.i l.invariant.1
-          (elim c.if-locks-i-eq1.branch [
-            | then-locks-i-eq1+else-page_differs w ↦ and_no (locked a.locks.now l.i) (differs page_size a.tag.now a.image.now l.i) (sym w.page_differs.ensures ∙ w.if-page_differs.false)
-            | else-locks-i-eq1 w ↦ ap (λ (t : Bool). t && differs page_size a.tag.now a.image.now l.i) (ne_eqb _ 1 w.if-locks-i-eq1.false)
+          (elim c.if-locked.branch [
+            | then-locked+else-page_differs w ↦ and_no (locked a.locks.now l.i) (differs page_size a.tag.now a.image.now l.i) (sym w.page_differs.ensures ∙ w.if-page_differs.false)
+            | else-locked w ↦ ap (λ (t : Bool). t && differs page_size a.tag.now a.image.now l.i) (ne_eqb _ 1 w.if-locked.false)
           ]),
     )
 

@@ -7,7 +7,7 @@ use lib.ListN.{length, get_or, drop, drop_of_length-le}
 use Rattle.format.proofs.Tests.{bytes-at}
 use Rattle.image.specs.Laying.{fields_size}
 use Rattle.image.proofs.Contents.{size-turn}
-use Rattle.image.proofs.blocks.fields_size.Goals.{Joined-size-ne0, then-size-ne0, else-size-ne0}
+use Rattle.image.proofs.blocks.fields_size.Goals.{Joined-followed, then-followed, else-followed}
 use Rattle.image.proofs.blocks.fields_size.Goals as goal
 
 pub loop-k-init : goal.loop-k-init
@@ -15,11 +15,11 @@ unfolding fields_size
 loop-k-init c = let s = c.args.lens.now in (omega arith, omega arith, sym (ap fields_size (drop_of_length-le s {i = length s} (omega arith))))
 
 -- with a separator, where something follows
-more : (c : Joined-size-ne0) → let l = c.loop-k in ((l.size ≡ 0) × (c.if-size-ne0.size ≡ l.size)) ⊎ ((l.size ≡ 0 → ⊥) × (c.if-size-ne0.size ≡ l.size + 1))
-more c = elim c.if-size-ne0.branch [ then-size-ne0 w ↦ inr (w.if-size-ne0.true, w.size-is) | else-size-ne0 w ↦ inl (w.if-size-ne0.false, w.size-is) ]
+more : (c : Joined-followed) → let l = c.loop-k in ((l.size ≡ 0) × (c.if-followed.size ≡ l.size)) ⊎ ((l.size ≡ 0 → ⊥) × (c.if-followed.size ≡ l.size + 1))
+more c = elim c.if-followed.branch [ then-followed w ↦ inr (w.if-followed.true, w.size-is) | else-followed w ↦ inl (w.if-followed.false, w.size-is) ]
 
 -- each field, and its separator, is 256 bytes at most
-bound : (c : Joined-size-ne0) → let l = c.loop-k in let lens = c.args.lens.now in c.if-size-ne0.size + get_or lens (l.k - 1) 0 ≤ 256 * (length lens - (l.k - 1))
+bound : (c : Joined-followed) → let l = c.loop-k in let lens = c.args.lens.now in c.if-followed.size + get_or lens (l.k - 1) 0 ≤ 256 * (length lens - (l.k - 1))
 bound c =
     let l = c.loop-k in
     let b = bytes-at (l.k - 1) c.args.lens.now c.requires.short in
@@ -29,13 +29,13 @@ pub overflow_add-size : goal.overflow_add-size
 overflow_add-size c = omega (arith, c.loop-k.invariant.1, c.requires.count)
 
 pub overflow_add-size-in-loop-k : goal.overflow_add-size-in-loop-k
-overflow_add-size-in-loop-k c = let j = (goal.at.overflow_add-size-in-loop-k c).Joined-size-ne0 in omega (arith, bound j, j.requires.count)
+overflow_add-size-in-loop-k c = let j = (goal.at.overflow_add-size-in-loop-k c).Joined-followed in omega (arith, bound j, j.requires.count)
 
 pub loop-k-preserved : goal.loop-k-preserved
 loop-k-preserved c =
-    let j = (goal.at.loop-k-preserved c).Joined-size-ne0 in
+    let j = (goal.at.loop-k-preserved c).Joined-followed in
     let l = c.loop-k in
-    (omega (arith, l.invariant.0), bound j, size-turn c.args.lens.now l.k l.size c.if-size-ne0.size c.loop-k-test.true l.invariant.0 l.invariant.2 (more j))
+    (omega (arith, l.invariant.0), bound j, size-turn c.args.lens.now l.k l.size c.if-followed.size c.loop-k-test.true l.invariant.0 l.invariant.2 (more j))
 
 pub returns : goal.returns
 returns c =

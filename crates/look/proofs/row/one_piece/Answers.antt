@@ -19,14 +19,14 @@ returns-then-size-eq0 c = rw (eq-eqb _ 0 c.if-size-eq0.true) c.nowhere.ensures
 
 pub returns-then-library-ne34 : goal.returns-then-library-ne34
 unfolding piece_by
-returns-then-library-ne34 c = rw (ne_eqb _ 0 c.if-size-eq0.false, ne_eqb _ 0 c.if-library-ne0.true, ne_eqb _ 34 c.if-library-ne34.true) c.nowhere-then-library-ne34.ensures
+returns-then-library-ne34 c = rw (ne_eqb _ 0 c.if-size-eq0.false, ne_eqb _ 0 c.if-there.true, ne_eqb _ 34 c.if-library-ne34.true) c.nowhere-then-library-ne34.ensures
 
 pub returns-then-library-size : goal.returns-then-library-size
 unfolding piece_by
 returns-then-library-size c =
-    rw (ne_eqb _ 0 c.if-size-eq0.false, first c.args.library.len c.args.library.at c.else-library-ne0.either, ne_eqb _ _ c.if-library-size.true)
+    rw (ne_eqb _ 0 c.if-size-eq0.false, first c.args.library.len c.args.library.at c.else-there.either, ne_eqb _ _ c.if-library-size.true)
     c.nowhere-then-library-size.ensures
 
 pub returns : goal.returns
 unfolding piece_by
-returns c = rw (ne_eqb _ 0 c.if-size-eq0.false, first c.args.library.len c.args.library.at c.else-library-ne0.either, eq-eqb _ _ c.if-library-size.false) refl
+returns c = rw (ne_eqb _ 0 c.if-size-eq0.false, first c.args.library.len c.args.library.at c.else-there.either, eq-eqb _ _ c.if-library-size.false) refl

@@ -21,10 +21,10 @@ number_in-total-requires c = front-digits c.args.part.now (sym c.are_digits.ensu
 pub number_in-ordinal-requires : goal.number_in-ordinal-requires
 number_in-ordinal-requires c = back-digits c.args.part.now (sym c.are_digits.ensures ∙ c.if-not-are_digits.false) c.if-part-gt6.false
 
-pub returns-then-total-lt1 : goal.returns-then-total-lt1
-returns-then-total-lt1 c =
+pub returns-then-empty : goal.returns-then-empty
+returns-then-empty c =
     let t : c.number_in-total.result ≡ total_in c.args.part.now = c.number_in-total.ensures ∙ total-read c.args.part.now in
-    read-bad _ (λ s. omega (arith, s.some, t, c.if-total-lt1.true))
+    read-bad _ (λ s. omega (arith, s.some, t, c.if-empty.true))
 
 pub returns-then-total-gt255 : goal.returns-then-total-gt255
 returns-then-total-gt255 c =
@@ -55,7 +55,7 @@ returns c =
     let s : Says p =
     record {
       digits = sym c.are_digits.ensures ∙ c.if-not-are_digits.false;
-      some = omega (arith, t, c.if-total-lt1.false);
+      some = omega (arith, t, c.if-empty.false);
       most = omega (arith, t, c.if-total-gt255.false);
       long = c.if-part-width.false ∙ ap (λ (w : ℕ). 2 * w) (c.width.ensures ∙ ap width t);
       ordered = omega (arith, t, m, c.if-total-ordinal.false);
