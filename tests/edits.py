@@ -1,39 +1,76 @@
 #!/usr/bin/env python3
-"""What refuses each must-fail edit: the statements that fail by themselves, the first one first, and whether docs/PROMISES.md says the same.
+"""What refuses each must-fail edit: the statement that the check meets first, and whether docs/PROMISES.md says the same.
 
-    python3 tests/edits.py [CRATE..]
+    python3 tests/edits.py [FILE..]
 
-It reads the logs that `rt ci` or `rt must-fail CRATE` leaves in target/must-fail/. A statement that is left unchecked because another failed
-(the log says 'was not admitted') is not shown. An error in the proof of a function is one of its contract: of what it ensures, or of what it
-has to show on the way. A row of docs/PROMISES.md that names an edit names statements of its log, and each edit has one row.
+Each FILE is what `rt ci` or `rt must-fail` printed; with none, this runs `rt must-fail`, which tries again only what has changed. Of each edit
+one line is printed, with the first error of its check. Where the page's row does not name just that, the edit is checked once more, in a
+copy of the crates, for all that fails. A statement that is left unchecked because another failed is not shown. An error in the proof of a
+function is one of its contract: of what it ensures, or of what it has to show on the way. A row of docs/PROMISES.md that names an edit names
+statements that fail, and each edit has one row.
 """
+import concurrent.futures
+import os
 import pathlib
 import re
+import shutil
+import subprocess
 import sys
+import tempfile
 
 ROOT = pathlib.Path(__file__).resolve().parent.parent
-ERROR = re.compile(r'/proofs/([\w/]+)\.antt:(\d+):\d+: error: `([^`]+)`: (.*)')
-UNPROVED = re.compile(r'^fn (\w+)::([\w:]+): no proof: .*`search` does not close `([^`]+)`')
+LINE = re.compile(r'^rt: must-fail (\w+)/([\w.-]+)\.edit: (.*)')
+REFUSED = re.compile(r'refused, as it must be(?: \((?:[^()]|\([^()]*\))*\))?: (.*)')
+PROOF = re.compile(r"(?:\./)?proofs/([\w+/]+)\.antt:(\d+):\d+: error: [^`]*`([^`]+)`")
+SOURCE = re.compile(r'note: src/([\w/]+)\.rt:(\d+):\d+: ')
+FUNCTION = re.compile(r'^\s*(?:pub )?(?:extern "C" )?fn (\w+)')
 ROW = re.compile(r'^\|(.*)\|\s*$')
 EDIT = re.compile(r'^[a-z_]+/[a-z0-9_]+$')
 
 
-def refused_by(crate, log):
-    """(statement, where) for each that fails by itself, in the log's order."""
+def function_at(crate, file, line):
+    """The function of src/ that stands at a line (an edit moves no line)."""
+    before = (ROOT / 'crates' / crate / 'src' / f'{file}.rt').read_text(encoding='utf8').splitlines()[:line]
+    name = next((found.group(1) for found in map(FUNCTION.match, reversed(before)) if found), '?')
+    return '::'.join([crate, *([] if file in ('lib', 'main') else [file]), name])
+
+
+def refused_by(crate, said):
+    """(statement, where) of what the check met first."""
+    reason = REFUSED.match(said)
+    proof = reason and PROOF.match(reason.group(1))
+    source = reason and SOURCE.match(reason.group(1))
+    if proof:
+        file, place, name = proof.groups()
+        function = re.fullmatch(r'(\w+(?:/\w+)*)/(?:Answers|Invariants|Proof)', file)
+        statement = f'contract of `{crate}::{function.group(1).replace("/", "::")}`' if function else f'`{name}`'
+        return statement, f'{name}, proofs/{file}.antt:{place}'
+    if source:
+        file, place = source.groups()
+        return f'contract of `{function_at(crate, file, int(place))}`', f'src/{file}.rt:{place}'
+    return None
+
+
+def checked(crate, path):
+    """(statement, where) for each that fails by itself, of all that `rt check` says of the crate with this edit."""
+    with tempfile.TemporaryDirectory() as room:
+        shutil.copytree(ROOT / 'crates', f'{room}/crates', ignore=shutil.ignore_patterns('out'))
+        shutil.copy(ROOT / 'crates.txt', room)
+        file = old = None
+        for line in path.read_text(encoding='utf8').splitlines():
+            if line.startswith('file: '):
+                file = pathlib.Path(room, 'crates', crate, line[6:].strip())
+            elif line.startswith('old: '):
+                old = line[5:]
+            elif line.startswith('new:'):
+                file.write_text(file.read_text(encoding='utf8').replace(old, line[4:].removeprefix(' ')), encoding='utf8')
+        ran = subprocess.run(['rt', 'check'], cwd=f'{room}/crates/{crate}', stdout=subprocess.PIPE, stderr=subprocess.STDOUT, text=True, errors='replace')
     found = []
-    for line in log.read_text(encoding='utf8', errors='replace').splitlines():
-        match, unproved = ERROR.search(line), UNPROVED.match(line)
-        if unproved:
-            statement, where = f'contract of `{unproved.group(1)}::{unproved.group(2)}`', f'{unproved.group(3)}, found by the checker before'
-        elif match and 'was not admitted' not in match.group(4):
-            file, place, name = match.group(1), match.group(2), match.group(3)
-            proof = re.fullmatch(r'(\w+(?:/\w+)*)/Proof', file)
-            statement = f'contract of `{crate}::{proof.group(1).replace("/", "::")}`' if proof else f'`{name}`'
-            where = f'{name}, proofs/{file}.antt:{place}'
-        else:
-            continue
-        if statement not in [known for known, _ in found]:
-            found.append((statement, where))
+    for line in ran.stdout.splitlines():
+        if not re.search(r'were not checked|was not checked|was not admitted', line):
+            one = refused_by(crate, f'refused, as it must be: {line}')
+            if one and one[0] not in [known for known, _ in found]:
+                found.append(one)
     return found
 
 
@@ -57,37 +94,42 @@ def said(cell):
 
 
 def main():
-    crates = sys.argv[1:]
+    if sys.argv[1:]:
+        text = '\n'.join(pathlib.Path(file).read_text(encoding='utf8', errors='replace') for file in sys.argv[1:])
+    else:
+        text = subprocess.run(['rt', 'must-fail'], cwd=ROOT, stdout=subprocess.PIPE, text=True, errors='replace').stdout
+    told = {f'{found.group(1)}/{found.group(2)}': found.group(3) for found in map(LINE.match, text.splitlines()) if found}
     edits = sorted((ROOT / 'crates').glob('*/must-fail/*.edit'))
-    unknown = set(crates) - {path.parts[-3] for path in edits}
-    if unknown:
-        print(f'usage: tests/edits.py [CRATE..]\nno must-fail edits: {" ".join(sorted(unknown))}', file=sys.stderr)
-        return 2
-    rows, faults, shown = page(), [], 0
-    for path in edits:
+    rows, faults = page(), []
+
+    def look(path):
+        """All that is known to refuse the edit; None where it was not tried, or not refused by a statement."""
         crate, edit = path.parts[-3], f'{path.parts[-3]}/{path.stem}'
-        if crates and crate not in crates:
-            continue
-        shown += 1
+        found = refused_by(crate, told.get(edit, ''))
+        cells = rows.get(edit, [])
+        names = said(cells[0]) if len(cells) == 1 else []
+        return found and ([found] if names == [found[0]] else checked(crate, path))
+
+    with concurrent.futures.ThreadPoolExecutor(min(os.cpu_count() or 1, 4)) as pool:
+        looked = list(pool.map(look, edits))
+    for path, shown in zip(edits, looked):
+        edit = f'{path.parts[-3]}/{path.stem}'
         print(f'{edit}: {path.read_text(encoding="utf8").splitlines()[0]}')
-        log = ROOT / 'target' / 'must-fail' / crate / path.stem / '.log'
-        if not log.exists():
-            faults.append(f'{edit}: not tried yet: rt must-fail {crate}')
+        if not shown:
+            faults.append(f'{edit}: {told.get(edit, "not tried")}')
             continue
-        found = refused_by(crate, log)
-        for statement, where in found:
+        cells = rows.get(edit, [])
+        names = said(cells[0]) if len(cells) == 1 else []
+        for statement, where in shown:
             print(f'    {statement}  ({where})')
-        names = [statement for statement, _ in found]
-        told = rows.get(edit, [])
-        if len(told) != 1:
-            faults.append(f'{edit}: {len(told)} rows in docs/PROMISES.md')
-        elif not said(told[0]) or not set(said(told[0])) <= set(names):
-            faults.append(f'{edit}: docs/PROMISES.md says {told[0]}')
-    if not crates:
-        faults += [f'{edit}: in docs/PROMISES.md, and not in crates/' for edit in sorted(set(rows) - {f'{p.parts[-3]}/{p.stem}' for p in edits})]
+        if len(cells) != 1:
+            faults.append(f'{edit}: {len(cells)} rows in docs/PROMISES.md')
+        elif not names or not set(names) <= {statement for statement, _ in shown}:
+            faults.append(f'{edit}: docs/PROMISES.md says {cells[0]}')
+    faults += [f'{edit}: in docs/PROMISES.md, and not in crates/' for edit in sorted(set(rows) - {f'{p.parts[-3]}/{p.stem}' for p in edits})]
     for line in faults:
         print(line)
-    print(f'{shown} must-fail edits, {len(faults)} faults')
+    print(f'{len(edits)} must-fail edits, {len(faults)} faults')
     return 1 if faults else 0
 
 
