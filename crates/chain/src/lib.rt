@@ -100,7 +100,8 @@ fn damage_by(n: usize, id: usize, x: u8, seen: bool) -> u32
     if id == 0 {
         return 17;
     }
-    if n < 4 {
+    let short = n < 4;
+    if short {
         return 17;
     }
     if x as usize != n {
@@ -125,7 +126,8 @@ pub fn formed_by(block: &[u8], x: u8) -> bool
         return false;
     }
     let id = id_of(block);
-    if 100 < id {
+    let local = 100 < id;
+    if local {
         return true;
     }
     damage_by(n, id, x, false) == 0
@@ -147,16 +149,19 @@ pub fn survey_of(tag: &[u8]) -> Survey
         if n == 0 {
             break 'chain;
         }
-        if n == 1 {
+        let filler = n == 1;
+        if filler {
             at += 1;
             continue 'chain;
         }
-        if n == 2 {
+        let two = n == 2;
+        if two {
             number = 15;
             break 'chain;
         }
         let id = id_of(block);
-        if id <= 100 {
+        let structured = id <= 100;
+        if structured {
             let mut x: u8 = 0;
             let mut k: usize = 1;
             while k < n {

@@ -26,7 +26,8 @@ fn set_info(s: &[u8]) -> bool
     }
     let parts = strings::word(s[0], s[1]);
     let ordinal = strings::word(s[2], s[3]);
-    if 255 < parts {
+    let many = 255 < parts;
+    if many {
         return false;
     }
     if 255 < ordinal {
@@ -53,7 +54,8 @@ fn carriable(block: &[u8]) -> bool
         return false;
     }
     let id = chain::id_of(block);
-    if id == 1 {
+    let library = id == 1;
+    if library {
         return false;
     }
     let x = if id <= 100 {

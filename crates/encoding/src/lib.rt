@@ -84,7 +84,8 @@ fn character_stage(text: &[u8]) -> Stage
 {
     let mut i: usize = 0;
     while i < text.len() {
-        if 0x7F < text[i] {
+        let high = 0x7F < text[i];
+        if high {
             return Stage::Refused(21);
         }
         i += 1;

@@ -187,7 +187,8 @@ fn isil_of(prefix: &[u8], unit: &[u8]) -> bool
     if unit.len() < 1 {
         return false;
     }
-    if 11 < unit.len() {
+    let long = 11 < unit.len();
+    if long {
         return false;
     }
     units(unit)

@@ -37,7 +37,8 @@ pub fn parted_number(answer: PartedAnswer) -> u32
 pub fn width(total: u8) -> usize
     ensures { result ≡ width total }
 {
-    if total <= 9 {
+    let one = total <= 9;
+    if one {
         return 1;
     }
     if total <= 99 {

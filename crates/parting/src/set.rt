@@ -74,13 +74,15 @@ fn read_set(part: &[u8]) -> SetAnswer
     if empty {
         return SetAnswer::Refused(6);
     }
-    if 255 < total {
+    let large = 255 < total;
+    if large {
         return SetAnswer::Refused(6);
     }
     if part.len() != 2 * identifier::width(total as u8) {
         return SetAnswer::Refused(6);
     }
-    if total < ordinal {
+    let above = total < ordinal;
+    if above {
         return SetAnswer::Refused(6);
     }
     SetAnswer::Said {

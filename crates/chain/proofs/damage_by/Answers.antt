@@ -14,18 +14,18 @@ pub returns-then-id-eq0 : goal.returns-then-id-eq0
 unfolding damage_by
 returns-then-id-eq0 c = rw (eq-eqb _ 0 c.if-id-eq0.true)
 
-pub returns-then-n-lt4 : goal.returns-then-n-lt4
+pub returns-then-short : goal.returns-then-short
 unfolding damage_by
-returns-then-n-lt4 c = rw (ne_eqb _ 0 c.if-id-eq0.false, lt-leb 4 _ c.if-n-lt4.true)
+returns-then-short c = rw (ne_eqb _ 0 c.if-id-eq0.false, lt-leb 4 _ c.if-short.true)
 
 pub returns-then-x-n : goal.returns-then-x-n
 unfolding damage_by
-returns-then-x-n c = rw (ne_eqb _ 0 c.if-id-eq0.false, le-leb 4 _ c.if-n-lt4.false, ne_eqb _ _ c.if-x-n.true)
+returns-then-x-n c = rw (ne_eqb _ 0 c.if-id-eq0.false, le-leb 4 _ c.if-short.false, ne_eqb _ _ c.if-x-n.true)
 
 -- behind the test of the checksum
 decided : (c : Else-x-n) → let a = c.args in damage_by a.n a.id a.x (eqb a.id 1 && a.seen) ≡ (if eqb a.id 1 && a.seen then 19 else 0)
 unfolding damage_by
-decided c = rw (ne_eqb _ 0 c.if-id-eq0.false, le-leb 4 _ c.if-n-lt4.false, eq-eqb _ _ c.if-x-n.false)
+decided c = rw (ne_eqb _ 0 c.if-id-eq0.false, le-leb 4 _ c.if-short.false, eq-eqb _ _ c.if-x-n.false)
 
 pub returns-then-seen : goal.returns-then-seen
 returns-then-seen c = sym (decided (goal.at.returns-then-seen c).Else-x-n ∙ rw (eq-eqb _ 1 c.if-single.true, c.if-seen.true))

@@ -25,8 +25,8 @@ decided c =
     let d = c in
     rw (c.id_of-id.ensures, d.byte_at-n.ensures.0, le-leb 3 _ d.if-block-lt3.false, eq-eqb _ _ (sym d.byte_at-n.ensures.0 ∙ d.if-n-block.false))
 
-pub returns-then-id-gt100 : goal.returns-then-id-gt100
-returns-then-id-gt100 c = sym (decided (goal.at.returns-then-id-gt100 c).After-id_of-id ∙ rw (lt-leb _ 100 c.if-id-gt100.true))
+pub returns-then-local : goal.returns-then-local
+returns-then-local c = sym (decided (goal.at.returns-then-local c).After-id_of-id ∙ rw (lt-leb _ 100 c.if-local.true))
 
 pub returns : goal.returns
-returns c = sym (decided (goal.at.returns c).After-id_of-id ∙ rw (le-leb _ 100 c.if-id-gt100.false, ← (and_no (eqb c.id_of-id.result 1) false refl), ← c.damage_by.ensures))
+returns c = sym (decided (goal.at.returns c).After-id_of-id ∙ rw (le-leb _ 100 c.if-local.false, ← (and_no (eqb c.id_of-id.result 1) false refl), ← c.damage_by.ensures))

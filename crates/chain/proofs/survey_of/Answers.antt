@@ -23,9 +23,9 @@ use Rattle.chain.specs.Formed.{damage_by}
 use Rattle.chain.specs.Survey.{Found, survey_of}
 use Rattle.chain.proofs.Formed.{unstructured, damage-by, length_two, cut_short}
 use Rattle.chain.proofs.Turns.{xor-more, xor_all_lem, found, SoFar, start, second, ended, filler, damaged, there, library, other, moved}
-use Rattle.chain.proofs.survey_of.Goals.{Joined-id-le100, Left-chain}
-use Rattle.chain.proofs.survey_of.Goals.{then-id-le100+else-loop-k-test+else-number-ne0, else-id-le100+else-block-n, then-id-eq1, else-id-eq1}
-use Rattle.chain.proofs.survey_of.Goals.{else-chain-test, then-chain-test+then-n-eq0, then-chain-test+else-n-eq0+else-n-eq1+then-n-eq2, then-chain-test+else-n-eq0+else-n-eq1+else-n-eq2+then-id-le100+then-loop-k-test+then-block-k, then-chain-test+else-n-eq0+else-n-eq1+else-n-eq2+then-id-le100+else-loop-k-test+then-number-ne0, then-chain-test+else-n-eq0+else-n-eq1+else-n-eq2+else-id-le100+then-block-n}
+use Rattle.chain.proofs.survey_of.Goals.{Joined-structured, Left-chain}
+use Rattle.chain.proofs.survey_of.Goals.{then-structured+else-loop-k-test+else-number-ne0, else-structured+else-block-n, then-id-eq1, else-id-eq1}
+use Rattle.chain.proofs.survey_of.Goals.{else-chain-test, then-chain-test+then-n-eq0, then-chain-test+else-n-eq0+else-filler+then-two, then-chain-test+else-n-eq0+else-filler+else-two+then-structured+then-loop-k-test+then-block-k, then-chain-test+else-n-eq0+else-filler+else-two+then-structured+else-loop-k-test+then-number-ne0, then-chain-test+else-n-eq0+else-filler+else-two+else-structured+then-block-n}
 use Rattle.chain.proofs.survey_of.Goals as goal
 
 -- ---- what is known of a block whose length is not 0, 1 or 2
@@ -90,21 +90,21 @@ module _ (t : List ℕ) (at n : ℕ) (b : List ℕ) (id : ℕ) (d : Block t at n
 
 -- ---- it has no damage
 
-module _ (c : Joined-id-le100) where
+module _ (c : Joined-structured) where
   here : Block c.args.tag.now c.chain.at c.byte_at-n.result c.block_at-block.result.now c.id_of-id.result
-  here = behind_two _ _ _ _ _ c.byte_at-n.ensures.0 c.block_at-block.ensures.0 c.id_of-id.ensures c.if-n-eq0.false c.if-n-eq1.false c.if-n-eq2.false
+  here = behind_two _ _ _ _ _ c.byte_at-n.ensures.0 c.block_at-block.ensures.0 c.id_of-id.ensures c.if-n-eq0.false c.if-filler.false c.if-two.false
 
   none : damage_of c.chain.at c.chain.invariant.1.seen (block_at c.args.tag.now c.chain.at) ≡ got tt
-  none = elim c.if-id-le100.branch [
-    | then-id-le100+else-loop-k-test+else-number-ne0 w ↦
-        number-none _ _ _ (number_is _ _ _ _ _ here _ w.loop-k.k w.loop-k.invariant.1 w.loop-k-test.false w.loop-k.invariant.2 w.if-id-le100.true _ _ _ c.chain.invariant.1 _ w.damage_by-number.ensures ∙ w.if-number-ne0.false)
-    | else-id-le100+else-block-n w ↦ high-none _ _ _ _ _ here _ w.if-id-le100.false w.if-block-n.false
+  none = elim c.if-structured.branch [
+    | then-structured+else-loop-k-test+else-number-ne0 w ↦
+        number-none _ _ _ (number_is _ _ _ _ _ here _ w.loop-k.k w.loop-k.invariant.1 w.loop-k-test.false w.loop-k.invariant.2 w.if-structured.true _ _ _ c.chain.invariant.1 _ w.damage_by-number.ensures ∙ w.if-number-ne0.false)
+    | else-structured+else-block-n w ↦ high-none _ _ _ _ _ here _ w.if-structured.false w.if-block-n.false
   ]
 
-  unharmed : c.if-id-le100.number ≡ 0
-  unharmed = elim c.if-id-le100.branch [
-    | then-id-le100+else-loop-k-test+else-number-ne0 w ↦ w.number-is ∙ w.if-number-ne0.false
-    | else-id-le100+else-block-n w ↦ w.number-is ∙ c.chain.invariant.0
+  unharmed : c.if-structured.number ≡ 0
+  unharmed = elim c.if-structured.branch [
+    | then-structured+else-loop-k-test+else-number-ne0 w ↦ w.number-is ∙ w.if-number-ne0.false
+    | else-structured+else-block-n w ↦ w.number-is ∙ c.chain.invariant.0
   ]
 
   two-here : 2 ≤ get_or c.args.tag.now c.chain.at 0
@@ -137,20 +137,20 @@ left-rightly c =
     elim c.chain-test.branch [
       | else-chain-test w ↦ whole _ _ _ (w.number-is ∙ i.0) (ended t at _ _ _ i.1 (past_end t at w.chain-test.false))
       | then-chain-test+then-n-eq0 w ↦ whole _ _ _ (w.number-is ∙ i.0) (ended t at _ _ _ i.1 (sym w.byte_at-n.ensures.0 ∙ w.if-n-eq0.true))
-      | then-chain-test+else-n-eq0+else-n-eq1+then-n-eq2 w ↦
-          let two : get_or t at 0 ≡ 2 = sym w.byte_at-n.ensures.0 ∙ w.if-n-eq2.true in
+      | then-chain-test+else-n-eq0+else-filler+then-two w ↦
+          let two : get_or t at 0 ≡ 2 = sym w.byte_at-n.ensures.0 ∙ w.if-two.true in
           harmed _ 15 _ _ w.number-is (λ e. omega arith) (damage (omega arith) 15 (length_two at _ (block_at t at) (says_at t at [] (omega arith) ∙ two)))
-      | then-chain-test+else-n-eq0+else-n-eq1+else-n-eq2+then-id-le100+then-loop-k-test+then-block-k w ↦
-          let h = three-at-least _ _ w.byte_at-n.ensures.0 w.if-n-eq0.false w.if-n-eq1.false w.if-n-eq2.false in
+      | then-chain-test+else-n-eq0+else-filler+else-two+then-structured+then-loop-k-test+then-block-k w ↦
+          let h = three-at-least _ _ w.byte_at-n.ensures.0 w.if-n-eq0.false w.if-filler.false w.if-two.false in
           let short : length_of (block_at t at) ≡ length (block_at t at) → ⊥ = λ e. omega (arith, e, says_at t at [] (omega arith), w.byte_at-n.ensures.0, ap length w.block_at-block.ensures.0, w.loop-k-test.true, w.if-block-k.true) in
           harmed _ 16 _ _ w.number-is (λ e. omega arith) (damage (omega arith) 16 (cut_short at _ (block_at t at) (not-two t at h) short))
-      | then-chain-test+else-n-eq0+else-n-eq1+else-n-eq2+then-id-le100+else-loop-k-test+then-number-ne0 w ↦
+      | then-chain-test+else-n-eq0+else-filler+else-two+then-structured+else-loop-k-test+then-number-ne0 w ↦
           let d : Block t at w.byte_at-n.result w.block_at-block.result.now w.id_of-id.result =
-          behind_two _ _ _ _ _ w.byte_at-n.ensures.0 w.block_at-block.ensures.0 w.id_of-id.ensures w.if-n-eq0.false w.if-n-eq1.false w.if-n-eq2.false in
+          behind_two _ _ _ _ _ w.byte_at-n.ensures.0 w.block_at-block.ensures.0 w.id_of-id.ensures w.if-n-eq0.false w.if-filler.false w.if-two.false in
           harmed _ _ _ _ w.number-is w.if-number-ne0.true (damage (two _ _ _ _ _ d) _ (number-some at _ (block_at t at) _
-          (number_is _ _ _ _ _ d _ w.loop-k.k w.loop-k.invariant.1 w.loop-k-test.false w.loop-k.invariant.2 w.if-id-le100.true _ _ _ i.1 _ w.damage_by-number.ensures) w.if-number-ne0.true))
-      | then-chain-test+else-n-eq0+else-n-eq1+else-n-eq2+else-id-le100+then-block-n w ↦
-          let h = three-at-least _ _ w.byte_at-n.ensures.0 w.if-n-eq0.false w.if-n-eq1.false w.if-n-eq2.false in
+          (number_is _ _ _ _ _ d _ w.loop-k.k w.loop-k.invariant.1 w.loop-k-test.false w.loop-k.invariant.2 w.if-structured.true _ _ _ i.1 _ w.damage_by-number.ensures) w.if-number-ne0.true))
+      | then-chain-test+else-n-eq0+else-filler+else-two+else-structured+then-block-n w ↦
+          let h = three-at-least _ _ w.byte_at-n.ensures.0 w.if-n-eq0.false w.if-filler.false w.if-two.false in
           let short : length_of (block_at t at) ≡ length (block_at t at) → ⊥ = λ e. omega (arith, e, says_at t at [] (omega arith), w.byte_at-n.ensures.0, ap length w.block_at-block.ensures.0, w.if-block-n.true) in
           harmed _ 16 _ _ w.number-is (λ e. omega arith) (damage (omega arith) 16 (cut_short at _ (block_at t at) (not-two t at h) short))
     ]
@@ -160,10 +160,10 @@ left-rightly c =
 pub chain-init : goal.chain-init
 chain-init c = (refl, start c.args.tag.now)
 
-pub chain-preserved-then-n-eq1 : goal.chain-preserved-then-n-eq1
-chain-preserved-then-n-eq1 c =
+pub chain-preserved-then-filler : goal.chain-preserved-then-filler
+chain-preserved-then-filler c =
     let i = c.chain.invariant in
-    (i.0, filler c.args.tag.now _ _ _ _ i.1 (sym c.byte_at-n.ensures.0 ∙ c.if-n-eq1.true))
+    (i.0, filler c.args.tag.now _ _ _ _ i.1 (sym c.byte_at-n.ensures.0 ∙ c.if-filler.true))
 
 pub loop-k-preserved : goal.loop-k-preserved
 loop-k-preserved c =
@@ -171,17 +171,17 @@ loop-k-preserved c =
     (l.invariant.0, xor-more c.block_at-block.result.now l.k l.x c.if-block-k.false l.invariant.1, omega (arith, c.if-block-k.false))
 
 pub overflow_add-size : goal.overflow_add-size
-overflow_add-size c = omega (arith, c.chain.invariant.1.room, c.byte_at-n.ensures.0, (stands_here (goal.at.overflow_add-size c).Joined-id-le100).inside)
+overflow_add-size c = omega (arith, c.chain.invariant.1.room, c.byte_at-n.ensures.0, (stands_here (goal.at.overflow_add-size c).Joined-structured).inside)
 
 pub overflow_add-at-in-chain : goal.overflow_add-at-in-chain
-overflow_add-at-in-chain c = omega (arith, c.byte_at-n.ensures.0, (stands_here (goal.at.overflow_add-at-in-chain c).Joined-id-le100).inside)
+overflow_add-at-in-chain c = omega (arith, c.byte_at-n.ensures.0, (stands_here (goal.at.overflow_add-at-in-chain c).Joined-structured).inside)
 
 pub chain-smaller : goal.chain-smaller
-chain-smaller c = let d = (goal.at.chain-smaller c).Joined-id-le100 in omega (arith, c.byte_at-n.ensures.0, (stands_here d).inside, two-here d)
+chain-smaller c = let d = (goal.at.chain-smaller c).Joined-structured in omega (arith, c.byte_at-n.ensures.0, (stands_here d).inside, two-here d)
 
 pub chain-preserved : goal.chain-preserved
 chain-preserved c =
-    let d = (goal.at.chain-preserved c).Joined-id-le100 in
+    let d = (goal.at.chain-preserved c).Joined-structured in
     let t : List ℕ = c.args.tag.now in
     let n = sym c.byte_at-n.ensures.0 in
     let next = ap (λ (k : ℕ). c.chain.at + k) n in

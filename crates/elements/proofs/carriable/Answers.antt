@@ -17,9 +17,9 @@ pub returns-then-block-lt3 : goal.returns-then-block-lt3
 unfolding carriable well_formed
 returns-then-block-lt3 c = rw (lt-leb 3 _ c.if-block-lt3.true)
 
-pub returns-then-id-eq1 : goal.returns-then-id-eq1
+pub returns-then-library : goal.returns-then-library
 unfolding carriable
-returns-then-id-eq1 c = sym (and_no (well_formed c.args.block.now) _ (rw (eq-eqb _ 1 (sym c.id_of-id.ensures ∙ c.if-id-eq1.true))))
+returns-then-library c = sym (and_no (well_formed c.args.block.now) _ (rw (eq-eqb _ 1 (sym c.id_of-id.ensures ∙ c.if-library.true))))
 
 pub returns : goal.returns
 unfolding carriable
@@ -31,4 +31,4 @@ returns c =
       | then-id-le100 w ↦ w.x-is ∙ w.xor_of-x.ensures ∙ ap xor_all (take_all (length b - 1) (drop 1 b) (omega (arith, length-drop 1 b)))
       | else-id-le100 w ↦ absurd (omega (arith, w.if-id-le100.false, i, low))
     ] in
-    c.formed_by.ensures ∙ formed-well b _ x ∙ sym (rw (ne_eqb (id_of b) 1 (λ h. c.if-id-eq1.false (i ∙ h))) (and-true (well_formed b)))
+    c.formed_by.ensures ∙ formed-well b _ x ∙ sym (rw (ne_eqb (id_of b) 1 (λ h. c.if-library.false (i ∙ h))) (and-true (well_formed b)))

@@ -25,11 +25,11 @@ decided : (c : After-word-ordinal) → let a = c.args in
     leb p 255 && leb q 255 && leb q p ≡ set_info a.s.now
 decided c = numbers-decide _ _ _ c.if-s-ne4.false c.word-parts.ensures.0 c.word-ordinal.ensures.0
 
-pub returns-then-parts-gt255 : goal.returns-then-parts-gt255
-returns-then-parts-gt255 c = rw (lt-leb _ 255 c.if-parts-gt255.true) at (decided (goal.at.returns-then-parts-gt255 c).After-word-ordinal)
+pub returns-then-many : goal.returns-then-many
+returns-then-many c = rw (lt-leb _ 255 c.if-many.true) at (decided (goal.at.returns-then-many c).After-word-ordinal)
 
 pub returns-then-ordinal-gt255 : goal.returns-then-ordinal-gt255
-returns-then-ordinal-gt255 c = rw (le-leb _ 255 c.if-parts-gt255.false, lt-leb _ 255 c.if-ordinal-gt255.true) at (decided (goal.at.returns-then-ordinal-gt255 c).After-word-ordinal)
+returns-then-ordinal-gt255 c = rw (le-leb _ 255 c.if-many.false, lt-leb _ 255 c.if-ordinal-gt255.true) at (decided (goal.at.returns-then-ordinal-gt255 c).After-word-ordinal)
 
 pub returns : goal.returns
-returns c = rw (le-leb _ 255 c.if-parts-gt255.false, le-leb _ 255 c.if-ordinal-gt255.false) at (decided (goal.at.returns c).After-word-ordinal)
+returns c = rw (le-leb _ 255 c.if-many.false, le-leb _ 255 c.if-ordinal-gt255.false) at (decided (goal.at.returns c).After-word-ordinal)

@@ -6,14 +6,14 @@ use Rattle.format.proofs.Passing.{passing-on, passing-not, passing-all}
 use Rattle.words.specs.Code40.{is646}
 use Rattle.encoding.proofs.character_stage.Goals as goal
 
-pub returns-then-text-i-gt127 : goal.returns-then-text-i-gt127
-returns-then-text-i-gt127 c =
-    let high = passing-not is646 c.args.text.now c.loop-i.i c.loop-i.invariant c.loop-i-test.true (lt-leb _ _ c.if-text-i-gt127.true) in
+pub returns-then-high : goal.returns-then-high
+returns-then-high c =
+    let high = passing-not is646 c.args.text.now c.loop-i.i c.loop-i.invariant c.loop-i-test.true (lt-leb _ _ c.if-high.true) in
     sym (need-no 21 _ (sym high))
 
 pub loop-i-preserved : goal.loop-i-preserved
 loop-i-preserved c =
-    passing-on is646 c.args.text.now c.loop-i.i c.loop-i.invariant c.loop-i-test.true (le-leb _ _ c.if-text-i-gt127.false)
+    passing-on is646 c.args.text.now c.loop-i.i c.loop-i.invariant c.loop-i-test.true (le-leb _ _ c.if-high.false)
 
 pub returns : goal.returns
 returns c =

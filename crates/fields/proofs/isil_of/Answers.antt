@@ -44,9 +44,9 @@ prefix-stands c =
 pub returns-then-unit-lt1 : goal.returns-then-unit-lt1
 returns-then-unit-lt1 c = sym (prefix-stands (goal.at.returns-then-unit-lt1 c).Else-not-capitals ∙ simp (lt-leb _ _ c.if-unit-lt1.true))
 
-pub returns-then-unit-gt11 : goal.returns-then-unit-gt11
-returns-then-unit-gt11 c = sym (prefix-stands (goal.at.returns-then-unit-gt11 c).Else-not-capitals ∙ simp (le-leb _ _ c.if-unit-lt1.false, lt-leb _ _ c.if-unit-gt11.true))
+pub returns-then-long : goal.returns-then-long
+returns-then-long c = sym (prefix-stands (goal.at.returns-then-long c).Else-not-capitals ∙ simp (le-leb _ _ c.if-unit-lt1.false, lt-leb _ _ c.if-long.true))
 
 pub returns : goal.returns
 returns c =
-    sym (prefix-stands (goal.at.returns c).Else-not-capitals ∙ simp (le-leb _ _ c.if-unit-lt1.false, le-leb _ _ c.if-unit-gt11.false) (sym c.units.ensures))
+    sym (prefix-stands (goal.at.returns c).Else-not-capitals ∙ simp (le-leb _ _ c.if-unit-lt1.false, le-leb _ _ c.if-long.false) (sym c.units.ensures))

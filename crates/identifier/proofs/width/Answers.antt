@@ -4,14 +4,14 @@ use borrow.Author.Tests.{le-leb, lt-leb}
 use Rattle.identifier.specs.SetDigits.{width}
 use Rattle.identifier.proofs.width.Goals as goal
 
-pub returns-then-total-le9 : goal.returns-then-total-le9
+pub returns-then-one : goal.returns-then-one
 unfolding width
-returns-then-total-le9 c = rw (le-leb _ _ c.if-total-le9.true) refl
+returns-then-one c = rw (le-leb _ _ c.if-one.true) refl
 
 pub returns-then-total-le99 : goal.returns-then-total-le99
 unfolding width
-returns-then-total-le99 c = rw (lt-leb _ _ c.if-total-le9.false, le-leb _ _ c.if-total-le99.true) refl
+returns-then-total-le99 c = rw (lt-leb _ _ c.if-one.false, le-leb _ _ c.if-total-le99.true) refl
 
 pub returns : goal.returns
 unfolding width
-returns c = rw (lt-leb _ _ c.if-total-le9.false, lt-leb _ _ c.if-total-le99.false) refl
+returns c = rw (lt-leb _ _ c.if-one.false, lt-leb _ _ c.if-total-le99.false) refl

@@ -26,10 +26,10 @@ returns-then-empty c =
     let t : c.number_in-total.result ≡ total_in c.args.part.now = c.number_in-total.ensures ∙ total-read c.args.part.now in
     read-bad _ (λ s. omega (arith, s.some, t, c.if-empty.true))
 
-pub returns-then-total-gt255 : goal.returns-then-total-gt255
-returns-then-total-gt255 c =
+pub returns-then-large : goal.returns-then-large
+returns-then-large c =
     let t : c.number_in-total.result ≡ total_in c.args.part.now = c.number_in-total.ensures ∙ total-read c.args.part.now in
-    read-bad _ (λ s. omega (arith, s.most, t, c.if-total-gt255.true))
+    read-bad _ (λ s. omega (arith, s.most, t, c.if-large.true))
 
 pub overflow_mul-width : goal.overflow_mul-width
 overflow_mul-width c = omega (arith, c.width.ensures, width_few c.number_in-total.result)
@@ -40,12 +40,12 @@ returns-then-part-width c =
     let w : c.width.result ≡ width (total_in p) = c.width.ensures ∙ ap width (c.number_in-total.ensures ∙ total-read p) in
     read-bad p (λ s. c.if-part-width.true (s.long ∙ ap (λ (w : ℕ). 2 * w) (sym w)))
 
-pub returns-then-total-ordinal : goal.returns-then-total-ordinal
-returns-then-total-ordinal c =
+pub returns-then-above : goal.returns-then-above
+returns-then-above c =
     let p : List ℕ = c.args.part.now in
     let t : c.number_in-total.result ≡ total_in p = c.number_in-total.ensures ∙ total-read p in
     let m : c.number_in-ordinal.result ≡ ordinal_in p = c.number_in-ordinal.ensures ∙ ordinal-read p in
-    read-bad p (λ s. omega (arith, s.ordered, t, m, c.if-total-ordinal.true))
+    read-bad p (λ s. omega (arith, s.ordered, t, m, c.if-above.true))
 
 pub returns : goal.returns
 returns c =
@@ -56,8 +56,8 @@ returns c =
     record {
       digits = sym c.are_digits.ensures ∙ c.if-not-are_digits.false;
       some = omega (arith, t, c.if-empty.false);
-      most = omega (arith, t, c.if-total-gt255.false);
+      most = omega (arith, t, c.if-large.false);
       long = c.if-part-width.false ∙ ap (λ (w : ℕ). 2 * w) (c.width.ensures ∙ ap width t);
-      ordered = omega (arith, t, m, c.if-total-ordinal.false);
+      ordered = omega (arith, t, m, c.if-above.false);
     } in
     read-said p c.number_in-total.result c.number_in-ordinal.result t m s
