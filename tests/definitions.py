@@ -1,7 +1,7 @@
 #!/usr/bin/env python3
 """Wrong definitions, and whether any theorem or table sees that they are wrong: tests/definitions.py [CRATE/FILE ..], as format/Fields.antt
 
-Raises each number of the definitions of format, words and identifier by one, one at a time, in copies under target/definitions, and checks the crate. Pieces
+Raises each number of the definitions of format, words and identifier by one, one at a time, in copies in the folder for temporary files, and checks the crate. Pieces
 of format is left out: no rule stands there, and only crates above use them. Prints each change that nothing refuses. Ends with 1 where one of them
 should be refused. About 15 minutes for all files, on two cores; no part of tests/run.
 """
@@ -12,10 +12,12 @@ import re
 import shutil
 import subprocess
 import sys
+import tempfile
 
 ROOT = pathlib.Path(__file__).resolve().parent.parent
 CRATES = {'format': 'format:\n', 'words': 'format:\nwords: format\n', 'identifier': 'format:\nwords: format\nidentifier: format words\n'}
-WORK = ROOT / 'target' / 'definitions'
+# Outside the checkout, since rt ci lets no crate stand beside those of crates.txt.
+WORK = pathlib.Path(tempfile.gettempdir()) / f'urpanella-definitions-{os.getuid()}'
 RULELESS = {'Lib.antt', 'Pieces.antt'}  # of any crate
 NUMBER = re.compile(r'(?<![\w.·{])(?<!Type )(?:0x[0-9A-Fa-f]+|\d+)(?![\w}])')
 

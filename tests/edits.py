@@ -6,7 +6,8 @@
 Each FILE is what `rt ci` or `rt must-fail` printed; with none, this runs `rt must-fail`, which tries again only what has changed. Of each edit
 one line is printed, with the first error of its check. Where the page's row does not name just that, the edit is checked once more, in a
 copy of the crates, for all that fails. A statement that is left unchecked because another failed is not shown. An error in the proof of a
-function is one of its contract: of what it ensures, or of what it has to show on the way. A row of docs/PROMISES.md that names an edit names
+function is one of its contract: of what it ensures, or of what it has to show on the way. A refusal of which rt says that it shows little, for a
+name that the edit took away or a limit that was met, is a fault. A row of docs/PROMISES.md that names an edit names
 statements that fail, and each edit has one row.
 """
 import concurrent.futures
@@ -20,7 +21,8 @@ import tempfile
 
 ROOT = pathlib.Path(__file__).resolve().parent.parent
 LINE = re.compile(r'^rt: must-fail (\w+)/([\w.-]+)\.edit: (.*)')
-REFUSED = re.compile(r'refused, as it must be(?: \((?:[^()]|\([^()]*\))*\))?: (.*)')
+REFUSED = re.compile(r'refused, as it must be: (.*)')
+FOLLOWS = re.compile(r'were not checked|was not checked|was not admitted')
 PROOF = re.compile(r"(?:\./)?proofs/([\w+/]+)\.antt:(\d+):\d+: error: [^`]*`([^`]+)`")
 SOURCE = re.compile(r'note: src/([\w/]+)\.rt:(\d+):\d+: ')
 FUNCTION = re.compile(r'^\s*(?:pub )?(?:extern "C" )?fn (\w+)')
@@ -67,7 +69,7 @@ def checked(crate, path):
         ran = subprocess.run(['rt', 'check'], cwd=f'{room}/crates/{crate}', stdout=subprocess.PIPE, stderr=subprocess.STDOUT, text=True, errors='replace')
     found = []
     for line in ran.stdout.splitlines():
-        if not re.search(r'were not checked|was not checked|was not admitted', line):
+        if not FOLLOWS.search(line):
             one = refused_by(crate, f'refused, as it must be: {line}')
             if one and one[0] not in [known for known, _ in found]:
                 found.append(one)
@@ -108,7 +110,7 @@ def main():
         found = refused_by(crate, told.get(edit, ''))
         cells = rows.get(edit, [])
         names = said(cells[0]) if len(cells) == 1 else []
-        return found and ([found] if names == [found[0]] else checked(crate, path))
+        return found and ([found] if names == [found[0]] and not FOLLOWS.search(told[edit]) else checked(crate, path))
 
     with concurrent.futures.ThreadPoolExecutor(min(os.cpu_count() or 1, 4)) as pool:
         looked = list(pool.map(look, edits))

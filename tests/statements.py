@@ -23,6 +23,7 @@ CLAUSE = re.compile(r'\s*(requires|ensures)\b\*?[^{]*')
 RESULT = re.compile(r'\s*->\s*([^{}]*?)(?=\s*(?:requires\b|ensures\b|\{))')
 USED = re.compile(r'(?m)^(?:ghost )?use ([^;{\n]+)\.\{([^}]*)\}')
 LIBRARY = 'Rattle.std.specs.'
+KIT = ('Rattle.std.', 'mathlib.', 'Prim.', 'lib.', 'denote.')
 NAME = r"[^\s(){}.;,]"
 KINDS = ('requires', 'answers')
 
@@ -134,9 +135,11 @@ def states_one(function, statement, meanings):
     """Does the statement say of this function's contract that one outcome fits it?"""
     if len(function.ensured()) != 1:
         return False
-    # The kit lets no name of its own words stand for anything else, so those may come from any module of the kit.
-    if any(meanings.get(name) != module for name, module in function.meanings().items() if not module.startswith(LIBRARY)):
-        return False
+    # What a contract takes from the kit's Prelude, a theorem may take from the module of the kit that the Prelude has it from.
+    for name, module in function.meanings().items():
+        there = meanings.get(name, '')
+        if there != module and not (module.startswith(LIBRARY) and there.startswith(KIT)):
+            return False
     first, second = function.premise(False), function.premise(True)
     if ' × ' in first:
         first, second = f'({first})', f'({second})'
