@@ -20,7 +20,7 @@ def main():
     if len(sys.argv) > 1:
         print("usage: tests/figures.py", file=sys.stderr)
         sys.exit(2)
-    crates = [name.split(":")[0] for name in (ROOT / "crates.txt").read_text().splitlines() if name.strip() and not name.startswith("#")]
+    crates = [name.split(":")[0].split()[0] for name in (ROOT / "crates.txt").read_text().splitlines() if name.strip() and not name.startswith("#")]
     sums = [0, 0, 0, 0]
     print("| Crate | Code | Definitions | Proofs | Must-fail edits |\n|---|---|---|---|---|")
     for crate in crates:

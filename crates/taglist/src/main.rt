@@ -3,20 +3,23 @@
 // A tag has at most 2,048 bytes; one byte more is read, so that longer input is refused as such.
 #![tactic(auto)]
 
-ghost use Rattle.std.specs.Prelude.{◌≤◌, length, IfOk};
+ghost use Rattle.std.specs.Prelude.{◌<◌, ◌≤◌, length, take, IfOk};
+ghost use Rattle.std.specs.Io.KnownBytes.{Consumes, IsAtEnd};
 
 use std::io;
 use std::io::{Read, Write};
 
 // Reads until the buffer is full or the input has ended; answers how many bytes it read.
-fn read_full(input: &mut impl Read, buffer: &mut [u8]) -> io::Result<usize>
-    ensures { IfOk result (λ n. n ≤ length buffer.new) }
+fn read_full<R: Read>(input: &mut R, buffer: &mut [u8]) -> io::Result<usize>
+    ensures within { IfOk result (λ n. n ≤ length buffer.new) }
+    ensures read { IfOk result (λ n. Consumes (R.remaining input.old) (R.remaining input.new) (take n buffer.new)) }
+    ensures full { IfOk result (λ n. n < length buffer.new → IsAtEnd (R.remaining input.new)) }
 {
     let mut filled: usize = 0;
-    for _ in 0..buffer.len() {
+    while filled < buffer.len() {
         let count = input.read(&mut buffer[filled..])?;
         if count == 0 {
-            break;
+            return Ok(filled);
         }
         filled += count;
     }
