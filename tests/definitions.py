@@ -27,7 +27,7 @@ SAME = [
     ('format/Chain.antt', 'id_of b = word (get_or b 1 0) (get_or b 2 1)', 'a block of fewer than 3 bytes is damage whatever its ID'),
     ('format/Elements.antt', 'place_in [] n = 1', 'a place behind the list is no place, however far behind'),
     ('format/Fields.antt', 'unit_byte b = capital b || between 0x61 0x7A b || between 0x30 0x3A b || eqb b 0x2F || eqb b 0x2D || eqb b 0x3A', '3A is named besides'),
-    ('format/Numbers.antt', 'refusal_of (got a) = plain 1', 'asked only of a call that was refused; the functions that tell it have 0 in their contracts, in crates above'),
+    ('format/Numbers.antt', 'refusal_of (got a) = plain 1', 'nothing asks it of a call whose work is done'),
     ('format/Pages.antt', 'locked locks i = eqb (get_or locks i 1) 1', 'a lock map reaches every page, or the call is refused 1'),
     ('format/Sheet.antt', 'record { number = get_or h 0 1; bytes = take n b } ∷ cut k (drop 4 h) (drop n b)', 'a head that the sheet lacks makes another sheet, so 8'),
     ('format/Sheet.antt', 'count_in s = word (get_or s 0 1) (get_or s 1 0)', 'no entries make a sheet of fewer than 2 bytes, so it is 8'),

@@ -26,15 +26,25 @@ FOLLOWS = re.compile(r'were not checked|was not checked|was not admitted')
 PROOF = re.compile(r"(?:\./)?proofs/([\w+/]+)\.antt:(\d+):\d+: error: [^`]*`([^`]+)`")
 SOURCE = re.compile(r'note: src/([\w/]+)\.rt:(\d+):\d+: ')
 FUNCTION = re.compile(r'^\s*(?:pub )?(?:extern "C" )?fn (\w+)')
+IMPL = re.compile(r'^impl(?:<[^>]*>)? (?:(\w+)(?:<(\w+)>)? for )?(\w+)')
 ROW = re.compile(r'^\|(.*)\|\s*$')
 EDIT = re.compile(r'^[a-z_]+/[a-z0-9_]+$')
 
 
 def function_at(crate, file, line):
-    """The function of src/ that stands at a line (an edit moves no line)."""
-    before = (ROOT / 'crates' / crate / 'src' / f'{file}.rt').read_text(encoding='utf8').splitlines()[:line]
-    name = next((found.group(1) for found in map(FUNCTION.match, reversed(before)) if found), '?')
-    return '::'.join([crate, *([] if file in ('lib', 'main') else [file]), name])
+    """The function of src/ that stands at a line (an edit moves no line), or whose attribute does; a method's behind its type."""
+    lines = (ROOT / 'crates' / crate / 'src' / f'{file}.rt').read_text(encoding='utf8').splitlines()
+    while lines[line - 1].lstrip().startswith('#['):
+        line += 1
+    at = next((n for n in reversed(range(line)) if FUNCTION.match(lines[n])), None)
+    if at is None:
+        return f'{crate}::?'
+    owner = next((n for n in reversed(range(at)) if lines[n] and not lines[n].startswith((' ', '//'))), None)
+    within = IMPL.match(lines[owner]) if lines[at].startswith(' ') and owner is not None else None
+    # an impl is named as rt names it: type, trait and what the trait is of
+    kind = [''.join(part[0].upper() + part[1:] for part in (within.group(3), within.group(1), within.group(2)) if part)] if within else []
+    names = [*([] if file in ('lib', 'main') else [file]), *kind, FUNCTION.match(lines[at]).group(1)]
+    return '::'.join([crate, *names])
 
 
 def refused_by(crate, said):

@@ -1,48 +1,38 @@
 // The calls that a C host links: `include/urpanella.h` documents them. Each takes the answer of the call that does the work apart and does
-// nothing else.
+// nothing else: by `let .. else`, the project's form for an answer whose number goes out early.
 #![tactic(auto)]
 
 ghost use Rattle.std.specs.Prelude.{◌≡◌, not, eqb};
-ghost use Rattle.format.specs.Numbers.{refusal_given, read_given, edit_given, refusal_of, refusal_number, refusal_place, ReadsC, WritesC, EditsC};
+ghost use Rattle.format.specs.Numbers.{given, told, number_of, place_of, ReadsC, WritesC, EditsC};
 ghost use Rattle.words.specs.Calls.{decoding, encoding, FillsC};
 ghost use Rattle.identifier.specs.Elements.{three};
 ghost use Rattle.identifier.specs.Calls.{parting, joining, FillsThreeC};
 
-use format::{EditAnswer, NumberAnswer, ReadAnswer, Refusal};
-use identifier::PartedAnswer;
+use format::{Reason, Refusal};
 
 // What a call returns whose work is done.
 const DONE: u32 = 0;
 
-// The refusal of reading, number 0 for none.
-fn read_refusal(answer: ReadAnswer) -> Refusal
-    ensures { refusal_given result ≡ refusal_of (read_given answer) }
+// The number of an answer's refusal, 0 for none.
+fn number_of<T: Drop>(answer: Result<T, Reason>) -> u32
+    ensures { result ≡ number_of (given answer) }
 {
     match answer {
-        ReadAnswer::Done(_) => Refusal::Plain(0),
-        ReadAnswer::Refused(refusal) => refusal,
+        Ok(_) => 0,
+        Err(reason) => u32::from(reason),
     }
 }
 
-// The refusal of editing, number 0 for none.
-fn edit_refusal(answer: EditAnswer) -> Refusal
-    ensures { refusal_given result ≡ refusal_of (edit_given answer) }
+// The same of an answer that may have a place. `place` becomes it; without one, it stays as it is.
+fn tell<T: Drop>(answer: Result<T, Refusal>, place: &mut usize) -> u32
+    ensures { (result ≡ number_of (told answer)) × (place.new ≡ place_of (told answer) place.old) }
 {
     match answer {
-        EditAnswer::Done { pages: _, old: _ } => Refusal::Plain(0),
-        EditAnswer::Refused(refusal) => refusal,
-    }
-}
-
-// The number of a refusal. `place` becomes its place; without one, it stays as it is.
-fn tell(refusal: Refusal, place: &mut usize) -> u32
-    ensures { (result ≡ refusal_number (refusal_given refusal)) × (place.new ≡ refusal_place (refusal_given refusal) place.old) }
-{
-    match refusal {
-        Refusal::Plain(number) => number,
-        Refusal::Placed { number, place: at } => {
+        Ok(_) => 0,
+        Err(Refusal::Plain(reason)) => u32::from(reason),
+        Err(Refusal::Placed { damage, place: at }) => {
             *place = at;
-            number
+            u32::from(damage)
         }
     }
 }
@@ -54,8 +44,8 @@ pub extern "C" fn urp_read(tag: &[u8], sheet: &mut [u8], used: &mut usize, place
     ensures { ReadsC tag.now sheet.old used.old place.old result sheet.new used.new place.new }
 {
     let answer = reading::read(tag, sheet);
-    let ReadAnswer::Done(length) = answer else {
-        return tell(read_refusal(answer), place);
+    let Ok(length) = answer else {
+        return tell(answer, place);
     };
     *used = length;
     DONE
@@ -67,8 +57,8 @@ pub extern "C" fn urp_write(sheet: &[u8], tag: &mut [u8], locks: &[u8], pages: &
     ensures { WritesC sheet.now tag.old locks.now pages.old result tag.new pages.new }
 {
     let answer = writing::write(sheet, tag, locks);
-    let NumberAnswer::Done(count) = answer else {
-        return format::answer_number(answer);
+    let Ok(count) = answer else {
+        return number_of(answer);
     };
     *pages = count;
     DONE
@@ -88,16 +78,12 @@ pub extern "C" fn urp_edit(
 ) -> u32
     ensures { EditsC tag.old locks.now number value.now old.old pages.old used.old place.old result tag.new old.new pages.new used.new place.new }
 {
-    let answer = editing::edit(tag, locks, number, value, old);
-    let EditAnswer::Done {
-        pages: count,
-        old: length,
-    } = answer
-    else {
-        return tell(edit_refusal(answer), place);
+    let edited = editing::edit(tag, locks, number, value, old);
+    let Ok(done) = edited else {
+        return tell(edited, place);
     };
-    *pages = count;
-    *used = length;
+    *pages = done.pages;
+    *used = done.old;
     DONE
 }
 
@@ -107,8 +93,8 @@ pub extern "C" fn urp_words_to_text(words: &[u16], text: &mut [u8], used: &mut u
     ensures { FillsC (decoding words.now text.old) used.old result text.new used.new }
 {
     let answer = decoding::words_to_text(words, text);
-    let NumberAnswer::Done(length) = answer else {
-        return format::answer_number(answer);
+    let Ok(length) = answer else {
+        return number_of(answer);
     };
     *used = length;
     DONE
@@ -120,8 +106,8 @@ pub extern "C" fn urp_text_to_words(text: &[u8], words: &mut [u16], used: &mut u
     ensures { FillsC (encoding text.now words.old) used.old result words.new used.new }
 {
     let answer = encoding::text_to_words(text, words);
-    let NumberAnswer::Done(count) = answer else {
-        return format::answer_number(answer);
+    let Ok(count) = answer else {
+        return number_of(answer);
     };
     *used = count;
     DONE
@@ -142,17 +128,12 @@ pub extern "C" fn urp_take_apart(
     ensures { FillsThreeC (parting (not (eqb leads 0)) text.now (three item.old isil.old set.old)) (three used1.old used3.old used4.old) result (three item.new isil.new set.new) (three used1.new used3.new used4.new) }
 {
     let answer = parting::take_apart(text, leads != 0, item, isil, set);
-    let PartedAnswer::Done {
-        item: item_length,
-        isil: isil_length,
-        set: set_length,
-    } = answer
-    else {
-        return identifier::parted_number(answer);
+    let Ok(lengths) = answer else {
+        return number_of(answer);
     };
-    *used1 = item_length;
-    *used3 = isil_length;
-    *used4 = set_length;
+    *used1 = lengths.item;
+    *used3 = lengths.isil;
+    *used4 = lengths.set;
     DONE
 }
 
@@ -168,8 +149,8 @@ pub extern "C" fn urp_put_together(
     ensures { FillsC (joining (three item.now isil.now set.now) text.old) used.old result text.new used.new }
 {
     let answer = joining::put_together(item, isil, set, text);
-    let NumberAnswer::Done(length) = answer else {
-        return format::answer_number(answer);
+    let Ok(length) = answer else {
+        return number_of(answer);
     };
     *used = length;
     DONE

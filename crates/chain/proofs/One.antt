@@ -1,21 +1,19 @@
 -- Each public function of `chain` has one answer. A part of a tag that is handed out has one content and one place.
-use mathlib.Core.Path.{◌≡◌, refl, sym, ap, ap₂, ◌∙◌}
+use Rattle.std.specs.Prelude.{Result}
+use mathlib.Core.Path.{◌≡◌, sym, ap₂, ◌∙◌}
 use Prim.Native.Nat.{ℕ}
 use mathlib.Core.Bool.{Bool}
 use mathlib.Core.List.{List}
 use lib.ListN.{get_or}
 use denote.Ref.{Bor}
 use Rattle.format.specs.Chain.{id_of}
-use Rattle.format.specs.Numbers.{refusal_given, refusal_of}
+use Rattle.format.specs.Numbers.{told}
 use Rattle.format.specs.declared.Refusal.{Refusal}
-use Rattle.format.proofs.Tests.{never}
-use Rattle.format.proofs.Answers.{got-inj}
-use Rattle.format.proofs.Given.{refusal-same}
+use Rattle.format.proofs.Given.{told-same}
 use Rattle.chain.specs.Part.{ThatPart}
 use Rattle.chain.specs.Formed.{formed_by}
-use Rattle.chain.specs.Survey.{Found, survey_given, survey_of}
-use Rattle.chain.specs.declared.Survey.{Survey}
-use Rattle.chain.specs.declared.Survey.TheVariants.{Whole, Damaged}
+use Rattle.chain.specs.Survey.{survey_of}
+use Rattle.chain.specs.declared.Chain.{Chain}
 
 pub block-at-one : (tag : Bor (List ℕ)) (at : ℕ) (r r₂ : Bor (List ℕ))
     → ThatPart tag at (get_or tag.now at 0) r
@@ -29,20 +27,5 @@ id-of-one block r r₂ a b = a ∙ sym b
 pub formed-by-one : (block : List ℕ) (x : ℕ) (r r₂ : Bool) → r ≡ formed_by x block → r₂ ≡ formed_by x block → r ≡ r₂
 formed-by-one block x r r₂ a b = a ∙ sym b
 
-survey-same : (r q : Survey) → survey_given r ≡ survey_given q → r ≡ q
-survey-same (Whole l c z d) (Whole m f y g) e =
-    let h = got-inj e in
-    let el : l ≡ m = ap (λ (x : Found). x.library) h in
-    let ec : c ≡ f = ap (λ (x : Found). x.count) h in
-    let ez : z ≡ y = ap (λ (x : Found). x.size) h in
-    let ed : d ≡ g = ap (λ (x : Found). x.end) h in
-    rw (el, ec, ez, ed) refl
-survey-same (Whole l c z d) (Damaged k p) e = never (cc)
-survey-same (Damaged k p) (Whole l c z d) e = never (cc)
-survey-same (Damaged k p) (Damaged j q) e = let h : k ≡ j = cc in let i : p ≡ q = cc in ap₂ Damaged h i
-
-pub survey-of-one : (tag : List ℕ) (r r₂ : Survey) → survey_given r ≡ survey_of tag → survey_given r₂ ≡ survey_of tag → r ≡ r₂
-survey-of-one tag r r₂ a b = survey-same r r₂ (a ∙ sym b)
-
-pub survey-refusal-one : (survey : Survey) (r r₂ : Refusal) → refusal_given r ≡ refusal_of (survey_given survey) → refusal_given r₂ ≡ refusal_of (survey_given survey) → r ≡ r₂
-survey-refusal-one survey r r₂ a b = refusal-same r r₂ (a ∙ sym b)
+pub survey-of-one : (tag : List ℕ) (r r₂ : Result Chain Refusal) → told r ≡ survey_of tag → told r₂ ≡ survey_of tag → r ≡ r₂
+survey-of-one tag r r₂ a b = told-same r r₂ (a ∙ sym b)

@@ -1,6 +1,13 @@
 -- A block as the code judges it: x is the XOR of the bytes behind the first, which is the first where the XOR of all is 00.
-use Rattle.std.specs.Prelude.{ℕ, Bool, true, false, not, ◌&&◌, List, length, leb, eqb, if◌then◌else◌}
+use Rattle.std.specs.Prelude.{ℕ, Bool, true, false, not, ◌&&◌, List, Option, None, Some, length, leb, eqb, if◌then◌else◌}
+use Rattle.format.specs.declared.Damage.{Damage}
 use Rattle.format.specs.Chain.{length_of, id_of, whole, structured}
+use Rattle.format.specs.Numbers.{damage_number}
+
+-- the number of the damage, if there is any, 0 for none
+abbrev pub number_by : Option Damage → ℕ
+number_by None = 0
+number_by (Some d) = damage_number d
 
 -- the number of the damage of a structured block, 0 for none: it has n bytes, as it says, and the ID `id`; `seen`: a
 -- block of this ID came before, and it may stand once

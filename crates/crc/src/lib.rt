@@ -1,7 +1,7 @@
 // The CRC of a tag's basic block, bit by bit. The register stands in the upper half of 32 bits: what goes out of it is gone, and nothing has to be cut back.
 #![tactic(auto)]
 
-ghost use Rattle.std.specs.Prelude.{◌≡◌, min};
+ghost use Rattle.std.specs.Prelude.{◌≡◌};
 ghost use Rattle.crc.specs.Register.{Becomes};
 ghost use Rattle.format.specs.Crc.{crc_bit, crc_byte, crc_from, crc, covered};
 
@@ -21,7 +21,7 @@ fn bit(register: u32) -> u32
 fn step(register: u32, byte: u8) -> u32
     ensures { Becomes register (λ x. crc_byte x byte) result }
 {
-    let met = register ^ ((byte as u32) << 24);
+    let met = register ^ (u32::from(byte) << 24);
     bit(bit(bit(bit(bit(bit(bit(bit(met))))))))
 }
 
@@ -29,20 +29,9 @@ fn step(register: u32, byte: u8) -> u32
 fn run(register: u32, bytes: &[u8]) -> u32
     ensures { Becomes register (λ x. crc_from x bytes.now) result }
 {
-    let mut after = register;
-    let mut i = 0;
-    while i < bytes.len() {
-        after = step(after, bytes[i]);
-        i += 1;
-    }
-    after
-}
-
-// The lesser of two numbers.
-fn least(a: usize, b: usize) -> usize
-    ensures { result ≡ min a b }
-{
-    if a < b { a } else { b }
+    bytes
+        .iter()
+        .fold(register, |after, byte| step(after, *byte))
 }
 
 // The CRC of a tag's basic block: of bytes 0 to 18 and then 21 to 33, of which those that the tag lacks count as 00.
@@ -50,9 +39,8 @@ pub fn of_tag(tag: &[u8]) -> u16
     ensures { result ≡ crc (covered tag.now) }
 {
     let n = tag.len();
-    let from = least(21, n);
-    let mut owner: [u8; 13] = [0; 13];
-    strings::copy(&tag[from..least(34, n)], &mut owner);
-    let front = run(START, &tag[0..least(19, n)]);
+    let mut owner = [0u8; 13];
+    strings::copy(&tag[n.min(21)..n.min(34)], &mut owner);
+    let front = run(START, &tag[..n.min(19)]);
     (run(front, &owner) >> 16) as u16
 }

@@ -2,11 +2,12 @@
 use mathlib.Core.Path.{◌≡◌}
 use Prim.Native.Nat.{ℕ}
 use mathlib.Core.List.{List}
-use Rattle.format.specs.declared.NumberAnswer.{NumberAnswer}
+use Rattle.std.specs.Prelude.{Result}
+use Rattle.format.specs.declared.Reason.{Reason}
 use Rattle.words.specs.Calls.{decoding, Fills}
 use Rattle.words.proofs.Promises.{fills_one}
 
-pub words-to-text-one : (words text : List ℕ) (r r₂ : NumberAnswer) (text' text₂ : List ℕ)
+pub words-to-text-one : (words text : List ℕ) (r r₂ : Result ℕ Reason) (text' text₂ : List ℕ)
     → Fills (decoding words text) r text'
     → Fills (decoding words text) r₂ text₂
     → (r ≡ r₂) × (text' ≡ text₂)

@@ -1,38 +1,17 @@
--- What shape and form a number asks for, and what may be set for it.
+-- What may be set for a number.
 use mathlib.Core.Path.{◌≡◌, refl, sym, ap, ◌∙◌}
 use mathlib.Core.Logic.{inl, inr}
-use Prim.Native.Nat.{ℕ, ◌≤◌, ◌<◌}
+use Prim.Native.Nat.{ℕ}
 use native.Mathlib.Omega.{arith}
-use mathlib.Core.Bool.{true, false, not, ◌&&◌, ◌||◌, and-true}
+use mathlib.Core.Bool.{true, not, ◌&&◌, ◌||◌}
 use mathlib.Core.List.{List, [], ◌∷◌}
-use lib.Dec.{eqb, leb}
+use lib.Dec.{eqb}
 use lib.ListN.{length}
-use borrow.Author.Tests.{eqb-true, ne_eqb, le-leb, lt-leb}
+use borrow.Author.Tests.{eqb-true}
 use Rattle.format.specs.Bytes.{all}
-use Rattle.format.specs.Elements.{table, required, shape, form, value, known}
-use Rattle.format.proofs.Tests.{and_no, or-inv, same_truth}
+use Rattle.format.specs.Elements.{table, required, form, value, known}
+use Rattle.format.proofs.Tests.{or-inv, same_truth}
 use Rattle.format.proofs.Slots.{kind-of}
-
--- ---- shapes and forms
-
--- an unknown number has no shape
-pub no-shape : (n : ℕ) (s : List ℕ) → (n ≡ 1 → ⊥) → (n ≡ 3 → ⊥) → (n ≡ 4 → ⊥) → (n ≡ 5 → ⊥) → (n ≡ 19 → ⊥) → (n ≡ 22 → ⊥) → (n ≡ 23 → ⊥) → (n ≡ 255 → ⊥)
-    → shape n s ≡ false
-unfolding shape
-no-shape n s a b c d e f g h = rw (ne_eqb n 1 a, ne_eqb n 3 b, ne_eqb n 4 c, ne_eqb n 5 d, ne_eqb n 19 e, ne_eqb n 22 f, ne_eqb n 23 g, ne_eqb n 255 h)
-
-pub form-short : (n : ℕ) (s : List ℕ) → length s ≤ 255 → shape n s ≡ form n s
-unfolding form
-form-short n s h = sym (rw (le-leb (length s) 255 h) (and-true (shape n s)))
-
-pub form-long : (n : ℕ) (s : List ℕ) → 255 < length s → false ≡ form n s
-unfolding form
-form-long n s h = sym (and_no (shape n s) (leb (length s) 255) (lt-leb (length s) 255 h))
-
--- ---- values that an edit may set
-
-pub unknown-refused : (n : ℕ) (s : List ℕ) → known n ≡ false → false ≡ known n && value n s
-unknown-refused n s e = sym (rw e)
 
 -- the table's rows that are always present
 four-or-five : (n : ℕ) → eqb n 4 || eqb n 5 ≡ required n

@@ -11,42 +11,36 @@ use rows::PLACES;
 fn some_text(s: &[u8]) -> bool
     ensures { result ≡ some_text s.now }
 {
-    if s.len() == 0 {
-        return false;
-    }
-    text::is_text(s)
+    !s.is_empty() && text::is_text(s)
 }
 
 // Is it set information, element 4: parts, then ordinal, both at most 255, ordinal at most parts.
+#[tactic(auto, unfolding(format::specs::Elements::set_info))]
 fn set_info(s: &[u8]) -> bool
     ensures { result ≡ set_info s.now }
 {
-    if s.len() != 4 {
-        return false;
+    match s {
+        [a, b, c, d] => {
+            let parts = strings::word(*a, *b);
+            let ordinal = strings::word(*c, *d);
+            parts <= 255 && ordinal <= 255 && ordinal <= parts
+        }
+        _ => false,
     }
-    let parts = strings::word(s[0], s[1]);
-    let ordinal = strings::word(s[2], s[3]);
-    let many = 255 < parts;
-    if many {
-        return false;
-    }
-    if 255 < ordinal {
-        return false;
-    }
-    ordinal <= parts
 }
 
 // Is it a media format, element 19: one byte, not 00.
 fn media(s: &[u8]) -> bool
     ensures { result ≡ media s.now }
 {
-    if s.len() != 1 {
-        return false;
+    match s {
+        [x] => *x != 0,
+        _ => false,
     }
-    s[0] != 0
 }
 
 // Can the block be carried, element 255: whole and well formed, no filler, ID not 1.
+#[tactic(auto, unfolding(format::specs::Chain::carriable, format::specs::Chain::well_formed))]
 fn carriable(block: &[u8]) -> bool
     ensures { result ≡ carriable block.now }
 {
@@ -67,6 +61,7 @@ fn carriable(block: &[u8]) -> bool
 }
 
 // Have the bytes the shape of the element with this number; an unknown number has none.
+#[tactic(auto, unfolding(format::specs::Elements::shape))]
 fn shaped(number: u32, s: &[u8]) -> bool
     ensures { result ≡ shape number s.now }
 {
@@ -82,39 +77,31 @@ fn shaped(number: u32, s: &[u8]) -> bool
     }
 }
 
-// Have the bytes the form of the element with this number: its shape, in at most 255 bytes.
-fn has_form(number: u32, value: &[u8]) -> bool
-    ensures { result ≡ form number value.now }
-{
-    if 255 < value.len() {
-        return false;
-    }
-    shaped(number, value)
-}
-
 // Does editing take this number: one of the table other than 255.
+#[tactic(auto, unfolding(format::specs::Elements::known))]
 fn known(number: u32) -> bool
     ensures { result ≡ known number }
 {
     rows::place_of(number) < PLACES
 }
 
-// Have the bytes the form of an element's number in a sheet; 255 is a carried block.
-pub fn formed(number: u8, value: &[u8]) -> bool
+// Have the bytes the form of the element with this number: its shape, in at most 255 bytes; 255 is a carried block.
+#[tactic(auto, unfolding(format::specs::Elements::form))]
+pub fn formed(number: u32, value: &[u8]) -> bool
     ensures { result ≡ form number value.now }
 {
-    has_form(number as u32, value)
+    value.len() <= 255 && shaped(number, value)
 }
 
 // Does editing take this number, and are the bytes a value of it: no bytes means remove.
+#[tactic(auto, using(crate::proofs::Numbers::removing, crate::proofs::Numbers::setting))]
 pub fn editable(number: u32, bytes: &[u8]) -> bool
     ensures { result ≡ known number && value number bytes.now }
 {
-    if !known(number) {
-        return false;
-    }
-    if bytes.len() == 0 {
-        return number != 4 && number != 5;
-    }
-    has_form(number, bytes)
+    known(number)
+        && if bytes.is_empty() {
+            number != 4 && number != 5
+        } else {
+            formed(number, bytes)
+        }
 }

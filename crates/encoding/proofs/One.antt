@@ -2,11 +2,12 @@
 use mathlib.Core.Path.{◌≡◌}
 use Prim.Native.Nat.{ℕ}
 use mathlib.Core.List.{List}
-use Rattle.format.specs.declared.NumberAnswer.{NumberAnswer}
+use Rattle.std.specs.Prelude.{Result}
+use Rattle.format.specs.declared.Reason.{Reason}
 use Rattle.words.specs.Calls.{encoding, Fills}
 use Rattle.words.proofs.Promises.{fills_one}
 
-pub text-to-words-one : (text words : List ℕ) (r r₂ : NumberAnswer) (words' words₂ : List ℕ)
+pub text-to-words-one : (text words : List ℕ) (r r₂ : Result ℕ Reason) (words' words₂ : List ℕ)
     → Fills (encoding text words) r words'
     → Fills (encoding text words) r₂ words₂
     → (r ≡ r₂) × (words' ≡ words₂)

@@ -1,4 +1,4 @@
--- How the code finds values, and how it walks through a text: one word in each turn.
+-- How the code finds values, and how it takes a text apart: one word in each turn.
 use Rattle.std.specs.Prelude.{◌≡◌, ℕ, suc, ◌≤◌, ◌<◌, List, [], ◌∷◌, length, drop, get_or, set}
 use Rattle.words.specs.Code40.{value_of, words_of}
 
@@ -11,8 +11,7 @@ marked v (c ∷ cs) table = marked (suc v) cs (set table c v)
 pub record Table (values : List ℕ) : Type 0 where
   pub at-character : (c : ℕ) → c < 0x80 → get_or values c 0 ≡ value_of c
 
--- the words of the text s from `at` on are `word` and then those from `next` on
-pub record Takes (s : List ℕ) (at word next : ℕ) : Type 0 where
-  pub on : at < next
-  pub inside : next ≤ length s
-  pub is : words_of (drop at s) ≡ word ∷ words_of (drop next s)
+-- the words of the text s are `word` and then those behind its first n characters
+pub record Takes (s : List ℕ) (word n : ℕ) : Type 0 where
+  pub inside : n ≤ length s
+  pub is : words_of s ≡ word ∷ words_of (drop n s)

@@ -1,3 +1,4 @@
 pub mod Loops
 pub mod Places
+pub mod Rules
 pub mod One

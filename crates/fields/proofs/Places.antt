@@ -1,11 +1,10 @@
 -- Where the parts stand that judging a field tells of.
-use Rattle.std.specs.Prelude.{if◌then◌else◌}
+use Rattle.std.specs.Prelude.{if◌then◌else◌, Ok, Err}
 use mathlib.Core.Path.{◌≡◌, refl, sym, ap, ap₂, subst, ◌∙◌}
-use mathlib.Core.Logic.{inl, inr}
 use Prim.Native.Nat.{ℕ, zero, suc, ◌+◌, ◌-◌, ◌≤◌}
 use native.Mathlib.Omega.{arith}
 use native.Mathlib.Numerals.{add-one}
-use mathlib.Core.Bool.{Bool, true, false, or-false}
+use mathlib.Core.Bool.{Bool, true, false}
 use mathlib.Core.List.{List, [], ◌∷◌, ◌++◌, map}
 use lib.ListN.{length, take, drop, get_or, length-take, length-drop}
 use lib.Seq.{drop-drop, take-take}
@@ -13,18 +12,19 @@ use lib.Dec.{eqb, leb}
 use borrow.Author.Tests.{eqb-false, ne_eqb, le-leb, lt-leb, leb-false}
 use Rattle.format.specs.Answers.{need, in_order}
 use Rattle.format.specs.Bytes.{is_empty, all, same, part, trim, strip, up_to, past}
-use Rattle.format.specs.Fields.{capital, hyphen, blank, alternate, alternative, marked, good_item, prefix_in, owner_said, good_owner}
+use Rattle.format.specs.Fields.{capital, hyphen, blank, alternate, marked, good_item, prefix_in, owner_said, good_owner}
 use Rattle.format.specs.Chain.{payload, fields_in, library_in, good_library}
-use Rattle.format.proofs.Tests.{never, and_l, or-inv}
+use Rattle.format.proofs.Tests.{never, and_l}
 use Rattle.format.proofs.Strings.{empty_of}
 use Rattle.format.proofs.Fields.{capital-ge, alternative-facts, isil-facts}
-use Rattle.fields.specs.declared.ItemParts.{ItemParts}
-use Rattle.fields.specs.declared.OwnerParts.{OwnerParts}
+use Rattle.format.specs.declared.Reason.TheVariants as reason
+use Rattle.format.specs.Numbers.{given}
+use Rattle.fields.specs.declared.Item.{Item}
+use Rattle.fields.specs.declared.Item.TheVariants as item
+use Rattle.fields.specs.declared.Owner.{Owner}
+use Rattle.fields.specs.declared.Owner.TheVariants as owner
 use Rattle.fields.specs.declared.LibraryParts.{LibraryParts}
-use Rattle.fields.specs.declared.ItemField.TheVariants as item
-use Rattle.fields.specs.declared.OwnerField.TheVariants as owner
-use Rattle.fields.specs.declared.LibraryField.TheVariants as library
-use Rattle.fields.specs.Forms.{item_parts, item_form, item_given, owner_parts, owner_form, owner_given, library_parts, library_form, library_given}
+use Rattle.fields.specs.Forms.{item_parts, item_marked, item_form, owner_parts, owner_marked, owner_form, library_parts, library_form}
 
 -- ---- parts of a string
 
@@ -122,57 +122,70 @@ field-lies (suc n) (suc k) i s b e =
 
 -- ---- each form is its parts, or refusal 6
 
-pub item-given : (f : List ℕ) → item_given (item_form f) ≡ in_order (need 6 (good_item (strip f)) ∷ []) (item_parts f)
-unfolding item_form need in_order
-item-given f = go (good_item (strip f))
-  where
-    go : (g : Bool) → item_given (if g then item.Good (item_parts f) else item.Refused 6) ≡ in_order (need 6 g ∷ []) (item_parts f)
-    go true = refl
-    go false = refl
+given-if : {A : Type 0} (good : Bool) (parts : A) → given (if good then Ok parts else Err reason.Field) ≡ in_order (need 6 good ∷ []) parts
+unfolding need in_order
+given-if true parts = refl
+given-if false parts = refl
 
-pub owner-given : (f : List ℕ) → owner_given (owner_form f) ≡ in_order (need 6 (good_owner (strip f)) ∷ []) (owner_parts f)
-unfolding owner_form need in_order
-owner-given f = go (good_owner (strip f))
-  where
-    go : (g : Bool) → owner_given (if g then owner.Good (owner_parts f) else owner.Refused 6) ≡ in_order (need 6 g ∷ []) (owner_parts f)
-    go true = refl
-    go false = refl
+pub item-given : (f : List ℕ) → given (item_form f) ≡ in_order (need 6 (good_item (strip f)) ∷ []) (item_parts f)
+unfolding item_form
+item-given f = given-if (good_item (strip f)) (item_parts f)
 
-pub library-given : (b : List ℕ) → library_given (library_form b) ≡ in_order (need 6 (good_library b) ∷ []) (library_parts b)
-unfolding library_form need in_order
-library-given b = go (good_library b)
-  where
-    go : (g : Bool) → library_given (if g then library.Good (library_parts b) else library.Refused 6) ≡ in_order (need 6 g ∷ []) (library_parts b)
-    go true = refl
-    go false = refl
+pub owner-given : (f : List ℕ) → given (owner_form f) ≡ in_order (need 6 (good_owner (strip f)) ∷ []) (owner_parts f)
+unfolding owner_form
+owner-given f = given-if (good_owner (strip f)) (owner_parts f)
+
+pub library-given : (b : List ℕ) → given (library_form b) ≡ in_order (need 6 (good_library b) ∷ []) (library_parts b)
+unfolding library_form
+library-given b = given-if (good_library b) (library_parts b)
 
 -- ---- the item field
 
+-- where its text stands
+abbrev pub ItemAt : List ℕ → Item → Type 0
+ItemAt f item.Marker = Unit {0}
+ItemAt f (item.Text n) = Within f 0 n (strip f)
+
 -- it holds the marker, or text at its front
-pub record ItemStands (f : List ℕ) (p : ItemParts) : Type 0 where
-  pub marks : marked (strip f) ≡ p.marked
-  pub here : p.marked ≡ false → Within f 0 p.len (strip f)
+pub record ItemStands (f : List ℕ) (p : Item) : Type 0 where
+  pub marks : marked (strip f) ≡ item_marked p
+  pub here : ItemAt f p
 
 pub item-stands : (f : List ℕ) → ItemStands f (item_parts f)
 unfolding item_parts
 item-stands f = go (marked (strip f)) refl
   where
-    go : (m : Bool) → marked (strip f) ≡ m → ItemStands f (record { marked = m; len = if m then 0 else length (strip f) })
-    go true e = record { marks = e; here = λ h. never (cc) }
-    go false e = record { marks = e; here = λ h. front-lies f 0 (strip f) (strip-take f) }
+    go : (m : Bool) → marked (strip f) ≡ m → ItemStands f (if m then item.Marker else item.Text (length (strip f)))
+    go true e = record { marks = e; here = tt }
+    go false e = record { marks = e; here = front-lies f 0 (strip f) (strip-take f) }
 
 -- ---- the owner field
 
--- it holds the marker; or else an alternative owner from the third byte on, or an ISIL, its prefix in front and its unit from there on
-pub record OwnerStands (f : List ℕ) (p : OwnerParts) : Type 0 where
-  pub marks : marked (owner_said (strip f)) ≡ p.marked
-  pub other : p.marked ≡ false → let o : List ℕ = owner_said (strip f) in Within f 2 p.alternative (if alternate o then o else [])
-  pub isil : p.marked ≡ false
-      → let o : List ℕ = owner_said (strip f) in
-      (if eqb p.prefix 0 then [] else take p.prefix f ++ hyphen ∷ part 2 p.isil f) ≡ (if alternate o then [] else o)
-  pub prefix-few : p.prefix ≤ 2
-  pub unit-few : p.isil ≤ 11
-  pub unit-inside : p.isil ≤ length f - 2
+-- an ISIL o: its prefix in front, its unit from the third byte on
+pub record IsilAt (f : List ℕ) (p u : ℕ) (o : List ℕ) : Type 0 where
+  pub kind : alternate o ≡ false
+  pub is : take p f ++ hyphen ∷ part 2 u f ≡ o
+  pub prefix-some : 1 ≤ p
+  pub prefix-few : p ≤ 2
+  pub unit-few : u ≤ 11
+  pub unit-inside : u ≤ length f - 2
+
+-- an alternative owner o, from the third byte on
+pub record AlternativeAt (f : List ℕ) (n : ℕ) (o : List ℕ) : Type 0 where
+  pub kind : alternate o ≡ true
+  pub here : Within f 2 n o
+
+-- where o stands, what the field says
+abbrev pub OwnerAt : List ℕ → Owner → List ℕ → Type 0
+OwnerAt f owner.Nothing o = o ≡ []
+OwnerAt f owner.Marker o = Unit {0}
+OwnerAt f (owner.Isil p u) o = IsilAt f p u o
+OwnerAt f (owner.Alternative n) o = AlternativeAt f n o
+
+-- it holds nothing, the marker, an ISIL or an alternative owner
+pub record OwnerStands (f : List ℕ) (p : Owner) : Type 0 where
+  pub marks : marked (owner_said (strip f)) ≡ owner_marked p
+  pub here : OwnerAt f p (owner_said (strip f))
 
 -- what begins with a capital is neither an alternative owner nor the marker
 capital-first : (p r : List ℕ) → 1 ≤ length p → all capital p ≡ true → (alternate (p ++ r) ≡ false) × (marked (p ++ r) ≡ false)
@@ -208,62 +221,43 @@ module _ (f : List ℕ) where
       go true = (front-take 1 t f (strip-take f), omega (arith, length-take 1 t))
       go false = (front-take 2 t f (strip-take f), omega (arith, length-take 2 t))
 
-  module _ (g : good_owner t ≡ true) where
-    -- a third byte up to 03: what begins there is said
-    low : leb (get_or t 2 0) 3 ≡ true → (m : Bool) → marked rest ≡ m
-        → OwnerStands f (record { marked = m; prefix = 0; isil = 0; alternative = if m then 0 else length rest })
-    unfolding good_owner owner_said
-    low l true h = record {
-      marks = rw l h;
-      other = λ e. never (cc);
-      isil = λ e. never (cc);
-      prefix-few = omega arith;
-      unit-few = omega arith;
-      unit-inside = omega arith;
-    }
-    low l false h =
-        let k : ((if alternate rest then rest else []) ≡ rest) × ([] ≡ (if alternate rest then [] else rest)) =
-        elim (or-inv (is_empty t) (alternative rest) (rw (h, l, or-false (is_empty t)) at g)) [
-          | inl e ↦ rw (empty_of t e) (refl, refl)
-          | inr e ↦ rw (alternative-facts rest e).kind (refl, refl)
-        ] in
-        record {
-          marks = rw l h;
-          other = λ e. rw (l, k.0) rest-lies;
-          isil = λ e. rw l k.1;
-          prefix-few = omega arith;
-          unit-few = omega arith;
-          unit-inside = omega arith;
-        }
+  -- the parts by the tests
+  abbrev chosen : Bool → Bool → Bool → Owner
+  chosen e m l =
+      if e then owner.Nothing else
+      if m then owner.Marker else
+      if l then owner.Alternative (length rest) else
+      owner.Isil (length (prefix_in t)) (length rest)
 
-    -- above: an ISIL
-    high : leb (get_or t 2 0) 3 ≡ false
-        → OwnerStands f (record { marked = marked rest; prefix = length (prefix_in t); isil = length rest; alternative = 0 })
-    unfolding good_owner owner_said
-    high l =
-        let k = third-high t l in
-        let i = isil-facts (prefix_in t) rest (rw (k.0, k.1, l) at g) in
+  module _ (g : good_owner t ≡ true) where
+    stands : (e m l : Bool) → is_empty t ≡ e → marked rest ≡ m → leb (get_or t 2 0) 3 ≡ l → OwnerStands f (chosen e m l)
+    unfolding good_owner owner_said same
+    stands true m l e h k = let n : t ≡ [] = empty_of t e in record { marks = rw n; here = rw n }
+    stands false true true e h k = record { marks = rw k h; here = tt }
+    stands false true false e h k = never (cc (third-high t k).1)
+    stands false false true e h k =
+        record {
+          marks = rw k h;
+          here = rw k (record { kind = (alternative-facts rest (rw (e, h, k) at g)).kind; here = rest-lies });
+        }
+    stands false false false e h k =
+        let i = isil-facts (prefix_in t) rest (rw (e, h, k) at g) in
         let c = capital-first (prefix_in t) (hyphen ∷ rest) i.some i.capitals in
         record {
-          marks = rw (l, k.1) c.1;
-          other = λ e. rw (l, c.0) (record { is = refl; inside = omega arith });
-          isil = λ e. rw (l, c.0, ne_eqb (length (prefix_in t)) 0 (omega (arith, i.some))) (ap₂ (λ (p u : List ℕ). p ++ hyphen ∷ u) (sym prefix-lies.0) rest-lies.is);
-          prefix-few = prefix-lies.1;
-          unit-few = i.unit-few;
-          unit-inside = rest-lies.inside;
+          marks = rw k c.1;
+          here = rw k (record {
+            kind = c.0;
+            is = ap₂ (λ (p u : List ℕ). p ++ hyphen ∷ u) (sym prefix-lies.0) rest-lies.is;
+            prefix-some = i.some;
+            prefix-few = prefix-lies.1;
+            unit-few = i.unit-few;
+            unit-inside = rest-lies.inside;
+          });
         }
 
 pub owner-stands : (f : List ℕ) → good_owner (strip f) ≡ true → OwnerStands f (owner_parts f)
 unfolding owner_parts
-owner-stands f g = go (leb (get_or (strip f) 2 0) 3) refl
-  where
-    go : (l : Bool) → leb (get_or (strip f) 2 0) 3 ≡ l
-        → OwnerStands f
-        (if l
-        then record { marked = marked (rest f); prefix = 0; isil = 0; alternative = if marked (rest f) then 0 else length (rest f) }
-        else record { marked = marked (rest f); prefix = length (prefix_in (strip f)); isil = length (rest f); alternative = 0 })
-    go true l = low f g l (marked (rest f)) refl
-    go false l = high f g l
+owner-stands f g = stands f g (is_empty (strip f)) (marked (rest f)) (leb (get_or (strip f) 2 0) 3) refl refl refl
 
 -- ---- block 1
 

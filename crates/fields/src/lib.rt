@@ -6,42 +6,29 @@ ghost use Rattle.std.specs.Prelude.{◌≡◌, ◌||◌, map, length, take, drop
 ghost use Rattle.format.specs.Bytes.{is_empty, all, strip, up_to};
 ghost use Rattle.format.specs.Fields.{capital, unit_byte, isil_of, isil, alternative, is_owner, marked, prefix_in};
 ghost use Rattle.format.specs.Chain.{fields_in, beyond};
-ghost use Rattle.format.specs.Numbers.{number_of};
-ghost use Rattle.fields.specs.declared.OwnerField.TheVariants as owner;
-ghost use Rattle.fields.specs.Forms.{item_form, owner_form, library_form, item_given, owner_given, library_given};
+ghost use Rattle.fields.specs.Forms.{item_form, owner_form, library_form};
 
-// What a good item field of the basic block holds: the marker 01, or text of `len` bytes, 0 for nothing.
+use format::Reason;
+
+// What a good item field of the basic block holds: the marker 01, or text of so many bytes, 0 for nothing.
 #[derive(Clone, Copy)]
-pub struct ItemParts {
-    pub marked: bool,
-    pub len: usize,
+pub enum Item {
+    Marker,
+    Text(usize),
 }
 
-// The item field; or refusal 6, it breaks its form.
-#[derive(Drop)]
-pub enum ItemField {
-    Good(ItemParts),
-    Refused(u32),
-}
-
-// What a good owner field of the basic block holds: the marker; or an ISIL, a prefix of `prefix` bytes and a unit of `isil` bytes from the
-// third byte on; or an alternative owner of `alternative` bytes from the third byte on; or nothing.
+// What a good owner field of the basic block holds: nothing; or from the third byte on the marker, the unit of an ISIL whose prefix stands
+// in front, or an alternative owner, each of so many bytes.
 #[derive(Clone, Copy)]
-pub struct OwnerParts {
-    pub marked: bool,
-    pub prefix: usize,
-    pub isil: usize,
-    pub alternative: usize,
+pub enum Owner {
+    Nothing,
+    Marker,
+    Isil { prefix: usize, unit: usize },
+    Alternative(usize),
 }
 
-// The owner field; or refusal 6, it breaks its form.
-#[derive(Drop)]
-pub enum OwnerField {
-    Good(OwnerParts),
-    Refused(u32),
-}
-
-// Block 1's fields: the media and usage bytes, 00 where missing, and the lengths of the item and owner fields, 0 where missing.
+// Block 1's fields: the media and usage bytes, 00 where missing, and the lengths of the item and owner fields, 0 where missing. No Options: 00
+// and nothing are what the tag itself has there, and what the definitions say.
 #[derive(Clone, Copy)]
 pub struct LibraryParts {
     pub media: u8,
@@ -50,97 +37,60 @@ pub struct LibraryParts {
     pub usage: u8,
 }
 
-// What block 1 holds: its fields; or refusal 6, one breaks its form.
-#[derive(Drop)]
-pub enum LibraryField {
-    Good(LibraryParts),
-    Refused(u32),
-}
-
 // Is b a unit character, A-Z a-z 0-9 / - : ?
+#[tactic(auto, unfolding(format::specs::Fields::unit_byte, format::specs::Fields::capital))]
 fn is_unit(b: u8) -> bool
     ensures { result ≡ unit_byte b }
 {
-    if strings::within(b'A', b'Z', b) {
-        return true;
-    }
-    if strings::within(b'a', b'z', b) {
-        return true;
-    }
-    if strings::within(b'0', b'9', b) {
-        return true;
-    }
-    if b == b'/' {
-        return true;
-    }
-    if b == b'-' {
-        return true;
-    }
-    b == b':'
+    matches!(b, b'A'..=b'Z' | b'a'..=b'z' | b'0'..=b'9' | b'/' | b'-' | b':')
 }
 
 // Is each byte of s a capital?
 fn capitals(s: &[u8]) -> bool
     ensures { result ≡ all capital s.now }
 {
-    let mut i: usize = 0;
-    while i < s.len() {
-        if !strings::within(b'A', b'Z', s[i]) {
-            return false;
-        }
-        i += 1;
-    }
-    true
+    s.iter().all(|b| strings::within(b'A', b'Z', *b))
 }
 
 // Is each byte of s a unit character?
 fn units(s: &[u8]) -> bool
     ensures { result ≡ all unit_byte s.now }
 {
-    let mut i: usize = 0;
-    while i < s.len() {
-        if !is_unit(s[i]) {
-            return false;
-        }
-        i += 1;
-    }
-    true
+    s.iter().all(|b| is_unit(*b))
 }
 
 // The first n bytes of s, or all where there are fewer.
 fn front(s: &[u8], n: usize) -> &[u8]
     ensures { result.now ≡ take n s.now }
 {
-    if n < s.len() { &s[0..n] } else { s }
+    &s[..n.min(s.len())]
 }
 
 // The bytes of s from a place on, or none.
 fn from(s: &[u8], at: usize) -> &[u8]
     ensures { result.now ≡ drop at s.now }
 {
-    if at < s.len() { &s[at..] } else { &s[0..0] }
+    &s[at.min(s.len())..]
 }
 
 // What s holds, without the 00 bytes at its end.
 fn held(s: &[u8]) -> &[u8]
     ensures { result.now ≡ strip s.now }
 {
-    let mut n = s.len();
-    while 0 < n && s[n - 1] == 0 {
-        n -= 1;
+    match s.iter().rposition(|b| *b != 0) {
+        Some(last) => &s[..last + 1],
+        None => &s[..0],
     }
-    front(s, n)
 }
 
 // The bytes before the first b: all, where there is none.
 fn up_to(s: &[u8], b: u8) -> &[u8]
     ensures { result.now ≡ up_to b s.now }
 {
-    let mut i: usize = 0;
-    while i < s.len() && s[i] != b {
-        i += 1;
+    match s.iter().position(|x| *x == b) {
+        Some(first) => &s[..first],
+        None => s,
     }
-    front(s, i)
 }
 
 // How long the fields of s are, as many as `lens` has places: a 00 stands between them, missing ones are empty. Gives what follows the last
@@ -149,52 +99,32 @@ fn find_fields<'a>(s: &'a [u8], lens: &mut [usize]) -> &'a [u8]
     ensures { (lens.new ≡ map length (fields_in (length lens.old) s.now)) × (result.now ≡ beyond (length lens.old) s.now) }
 {
     let mut rest = s;
-    let mut k: usize = 0;
-    while k < lens.len() {
+    for len in lens.iter_mut() {
         let field = up_to(rest, 0);
-        lens[k] = field.len();
-        // by a name of its own: a call's result is not laid over a reference
-        let behind = from(rest, field.len() + 1);
-        rest = behind;
-        k += 1;
+        *len = field.len();
+        rest = from(rest, field.len() + 1);
     }
     rest
 }
 
 // Is s the marker 01?
+#[tactic(auto, using(crate::proofs::Rules::unmarked), unfolding(format::specs::Bytes::same))]
 fn is_marker(s: &[u8]) -> bool
     ensures { result ≡ marked s.now }
 {
-    if s.len() != 1 {
-        return false;
-    }
-    s[0] == 1
+    matches!(s, [1])
 }
 
 // Are these an ISIL's two sides: 1 to 4 capitals, and 1 to 11 unit characters?
+#[tactic(auto, unfolding(format::specs::Fields::isil_of))]
 fn isil_of(prefix: &[u8], unit: &[u8]) -> bool
     ensures { result ≡ isil_of prefix.now unit.now }
 {
-    if prefix.len() < 1 {
-        return false;
-    }
-    if 4 < prefix.len() {
-        return false;
-    }
-    if !capitals(prefix) {
-        return false;
-    }
-    if unit.len() < 1 {
-        return false;
-    }
-    let long = 11 < unit.len();
-    if long {
-        return false;
-    }
-    units(unit)
+    matches!(prefix.len(), 1..=4) && capitals(prefix) && matches!(unit.len(), 1..=11) && units(unit)
 }
 
 // Is s an ISIL? The first hyphen parts its sides.
+#[tactic(auto, using(crate::proofs::Rules::cuts), unfolding(format::specs::Fields::isil))]
 pub fn isil(s: &[u8]) -> bool
     ensures { result ≡ isil s.now }
 {
@@ -203,143 +133,100 @@ pub fn isil(s: &[u8]) -> bool
 }
 
 // Is s an alternative owner: 02 or 03, then text?
+#[tactic(auto, unfolding(format::specs::Fields::alternative))]
 pub fn alternative(s: &[u8]) -> bool
     ensures { result ≡ alternative s.now }
 {
-    if !strings::within(2, 3, strings::byte_at(s, 0)) {
-        return false;
+    match s {
+        [2 | 3, words @ ..] => !words.is_empty() && text::is_text(words),
+        _ => false,
     }
-    let words = from(s, 1);
-    if words.len() == 0 {
-        return false;
-    }
-    text::is_text(words)
 }
 
-// What the item field of a basic block holds.
-pub fn item_in(field: &[u8]) -> ItemField
+// What the item field of a basic block holds; or refusal 6, it breaks its form.
+#[tactic(auto, unfolding(crate::specs::Forms::item_form, crate::specs::Forms::item_parts, format::specs::Fields::good_item))]
+pub fn item_in(field: &[u8]) -> Result<Item, Reason>
     ensures { result ≡ item_form field.now }
 {
     let item = held(field);
     if is_marker(item) {
-        return ItemField::Good(ItemParts {
-            marked: true,
-            len: 0,
-        });
+        return Ok(Item::Marker);
     }
     if text::is_text(item) {
-        return ItemField::Good(ItemParts {
-            marked: false,
-            len: item.len(),
-        });
+        return Ok(Item::Text(item.len()));
     }
-    ItemField::Refused(6)
+    Err(Reason::Field)
 }
 
 // The prefix of an ISIL in an owner field: one capital before a blank, or two capitals.
+#[tactic(auto, unfolding(format::specs::Fields::prefix_in))]
 fn prefix_in(field: &[u8]) -> &[u8]
     ensures { result.now ≡ prefix_in field.now }
 {
-    if strings::byte_at(field, 1) == b' ' {
-        return front(field, 1);
+    match field {
+        [_, b' ', ..] => front(field, 1),
+        _ => front(field, 2),
     }
-    front(field, 2)
 }
 
-// An owner field with these parts.
-fn good_owner(marked: bool, prefix: usize, isil: usize, alternative: usize) -> OwnerField
-    ensures { result ≡ owner.Good (record { marked = marked; prefix = prefix; isil = isil; alternative = alternative }) }
-{
-    OwnerField::Good(OwnerParts {
-        marked,
-        prefix,
-        isil,
-        alternative,
-    })
-}
-
-// What the owner field of a basic block holds. Its third byte chooses the form.
-pub fn owner_in(field: &[u8]) -> OwnerField
+// What the owner field of a basic block holds; or refusal 6. Its third byte chooses the form.
+#[tactic(auto, unfolding(crate::specs::Forms::owner_form, crate::specs::Forms::owner_parts, format::specs::Fields::good_owner))]
+pub fn owner_in(field: &[u8]) -> Result<Owner, Reason>
     ensures { result ≡ owner_form field.now }
 {
     let owner = held(field);
+    if owner.is_empty() {
+        return Ok(Owner::Nothing);
+    }
     let said = from(owner, 2);
-    if owner.len() == 0 || is_marker(said) {
-        return good_owner(owner.len() != 0, 0, 0, 0);
+    if is_marker(said) {
+        return Ok(Owner::Marker);
     }
     if strings::byte_at(owner, 2) <= 3 {
         if alternative(said) {
-            return good_owner(false, 0, 0, said.len());
+            return Ok(Owner::Alternative(said.len()));
         }
-        return OwnerField::Refused(6);
+        return Err(Reason::Field);
     }
     let prefix = prefix_in(owner);
     if isil_of(prefix, said) {
-        return good_owner(false, prefix.len(), said.len(), 0);
+        return Ok(Owner::Isil {
+            prefix: prefix.len(),
+            unit: said.len(),
+        });
     }
-    OwnerField::Refused(6)
+    Err(Reason::Field)
 }
 
 // Does an owner in block 1 stand: none, an alternative owner where it begins 02 or 03, else an ISIL?
+#[tactic(auto, unfolding(format::specs::Fields::is_owner))]
 fn owner_stands(owner: &[u8]) -> bool
     ensures { result ≡ (is_empty owner.now || is_owner owner.now) }
 {
-    if owner.len() == 0 {
-        return true;
+    match owner {
+        [] => true,
+        [2 | 3, ..] => alternative(owner),
+        _ => isil(owner),
     }
-    if strings::within(2, 3, strings::byte_at(owner, 0)) {
-        return alternative(owner);
-    }
-    isil(owner)
 }
 
-// Block 1's fields. Given is the whole block, or no bytes where there is no block 1.
-pub fn library_in(block: &[u8]) -> LibraryField
+// Block 1's fields; or refusal 6, one breaks its form. Given is the whole block, or no bytes where there is no block 1.
+pub fn library_in(block: &[u8]) -> Result<LibraryParts, Reason>
     ensures { result ≡ library_form block.now }
 {
     let payload = held(from(block, 4));
     let fields = from(payload, 1);
-    let mut lens = [0usize; 2];
+    let mut lens = [0; 2];
     let last = find_fields(fields, &mut lens);
     let item = front(fields, lens[0]);
     let owner = front(from(fields, item.len() + 1), lens[1]);
     if 1 < last.len() || !text::is_text(item) || !owner_stands(owner) {
-        return LibraryField::Refused(6);
+        return Err(Reason::Field);
     }
-    LibraryField::Good(LibraryParts {
+    Ok(LibraryParts {
         media: strings::byte_at(payload, 0),
         item: item.len(),
         owner: owner.len(),
         usage: strings::byte_at(last, 0),
     })
-}
-
-// The number of the item field's refusal, 0 for none.
-pub fn item_number(field: ItemField) -> u32
-    ensures { result ≡ number_of (item_given field) }
-{
-    match field {
-        ItemField::Good(_) => 0,
-        ItemField::Refused(k) => k,
-    }
-}
-
-// Of the owner field's.
-pub fn owner_number(field: OwnerField) -> u32
-    ensures { result ≡ number_of (owner_given field) }
-{
-    match field {
-        OwnerField::Good(_) => 0,
-        OwnerField::Refused(k) => k,
-    }
-}
-
-// Of block 1's.
-pub fn library_number(field: LibraryField) -> u32
-    ensures { result ≡ number_of (library_given field) }
-{
-    match field {
-        LibraryField::Good(_) => 0,
-        LibraryField::Refused(k) => k,
-    }
 }

@@ -10,6 +10,7 @@ pub mod Crc
 pub mod Paging
 pub mod Text
 pub mod Letters
+pub mod Lists
 pub mod Fields
 pub mod Blocks
 pub mod Counted
@@ -34,4 +35,3 @@ pub mod Before
 pub mod Promises
 pub mod Pairs
 pub mod Wrong
-pub mod One

@@ -8,6 +8,7 @@ use mathlib.Core.Bool.{Bool, true, false, ◌&&◌}
 use mathlib.Core.List.{List, ◌++◌}
 use lib.ListN.{length, take, drop}
 use borrow.Author.Tests.{le-leb}
+use Rattle.std.specs.Prelude.{Result}
 use Rattle.format.specs.Answers.{Answer, Refusal, plain, placed, got, refused, Step, in_order, Passed}
 use Rattle.format.specs.Bytes.{all, one_of, between, bytes, part, strip, filled, joined}
 use Rattle.format.specs.Pages.{page_size, good_size, lock_map, changed, open_pages, Kept}
@@ -23,9 +24,8 @@ use Rattle.format.specs.Before.{text_before, read_steps_by, reading_by, write_st
 use Rattle.format.specs.Numbers.{damage_numbers, Gives, gives, one_gives, read_gives, write_gives, edit_gives, Each, number_of, result_of, Reads, Writes, Edits, ReadsC, WritesC, EditsC}
 use Rattle.format.specs.History.{Own, State, begin, run}
 use Rattle.format.specs.Demands.{Exact, ReadsExactly, WritesExactly, EditsExactly, ReadsDamage, EditsDamage, ReadsUnchanged, WritesUnchanged, EditsUnchanged, TextExactly, ReadsBack, LaysDown, CountsWritten, CountsEdited, PutsElement, EveryHistory, SameIsNothing}
-use Rattle.format.specs.declared.NumberAnswer.{NumberAnswer}
-use Rattle.format.specs.declared.ReadAnswer.{ReadAnswer}
-use Rattle.format.specs.declared.EditAnswer.{EditAnswer}
+use Rattle.format.specs.declared.Reason.{Reason}
+use Rattle.format.specs.declared.Refusal as code
 use Rattle.format.proofs.Tests.{and_l, and_r, and_i, and_no, and_left, same_truth}
 use Rattle.format.proofs.Answers.{refuses, refused-first, works, worked, next-ok, next-no, afterwards-got, afterwards-refused}
 use Rattle.format.proofs.Damages.{damage-refused, placed-damage, damage-number, damage-inside, spoilt-on}
@@ -47,20 +47,20 @@ use Rattle.format.proofs.Writes.{write-passed, written-own, written-length, writ
 use Rattle.format.proofs.Edits.{edit-passed, own-elements, edit-passes, passed-edit, same_length, edited-own, same-accepted}
 use Rattle.format.proofs.Histories.{Good, history, begun}
 use Rattle.format.proofs.Before.{read-by-text, write-by-text, edit-by-text, read-same-or-six, write-same-or-nine, edit-same-or-six-nine, read-still, write-still, edit-still}
-use Rattle.format.proofs.Given.{answer-same, read_same, edit-same}
+use Rattle.format.proofs.Given.{given-same, told-same}
 
 -- ==== Demand 1: one answer and one content for each buffer, on every input; a refusal changes nothing and gives only its number
 
 -- two outcomes that fit a call's contract are equal, answer and buffers
-pub reads-one : (t buffer : List ℕ) (r r' : ReadAnswer) (s s' : List ℕ) → Reads t buffer r s → Reads t buffer r' s' → (r ≡ r') × (s ≡ s')
-reads-one t buffer r r' s s' a b = (read_same r r' (a.answered ∙ sym b.answered), a.left ∙ sym b.left)
+pub reads-one : (t buffer : List ℕ) (r r' : Result ℕ code.Refusal) (s s' : List ℕ) → Reads t buffer r s → Reads t buffer r' s' → (r ≡ r') × (s ≡ s')
+reads-one t buffer r r' s s' a b = (told-same r r' (a.answered ∙ sym b.answered), a.left ∙ sym b.left)
 
-pub writes_one : (s t locks : List ℕ) (r r' : NumberAnswer) (tag tag' : List ℕ) → Writes s t locks r tag → Writes s t locks r' tag' → (r ≡ r') × (tag ≡ tag')
-writes_one s t locks r r' tag tag' a b = (answer-same r r' (a.answered ∙ sym b.answered), a.left ∙ sym b.left)
+pub writes_one : (s t locks : List ℕ) (r r' : Result ℕ Reason) (tag tag' : List ℕ) → Writes s t locks r tag → Writes s t locks r' tag' → (r ≡ r') × (tag ≡ tag')
+writes_one s t locks r r' tag tag' a b = (given-same r r' (a.answered ∙ sym b.answered), a.left ∙ sym b.left)
 
-pub edits-one : (t locks : List ℕ) (n : ℕ) (s buffer : List ℕ) (r r' : EditAnswer) (tag tag' old old' : List ℕ)
+pub edits-one : (t locks : List ℕ) (n : ℕ) (s buffer : List ℕ) (r r' : Result Edited code.Refusal) (tag tag' old old' : List ℕ)
     → Edits t locks n s buffer r tag old → Edits t locks n s buffer r' tag' old' → (r ≡ r') × (tag ≡ tag') × (old ≡ old')
-edits-one t locks n s buffer r r' tag tag' old old' a b = (edit-same r r' (a.answered ∙ sym b.answered), a.left ∙ sym b.left, a.handed ∙ sym b.handed)
+edits-one t locks n s buffer r r' tag tag' old old' a b = (told-same r r' (a.answered ∙ sym b.answered), a.left ∙ sym b.left, a.handed ∙ sym b.handed)
 
 -- so too for the exported calls
 pub c-reads-one : (t buffer : List ℕ) (used place r r' : ℕ) (s s' : List ℕ) (u u' l l' : ℕ)

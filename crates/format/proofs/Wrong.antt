@@ -14,7 +14,7 @@ use Rattle.format.specs.Crc.{crc_bit, crc_bits, crc_byte, crc_from, crc, covered
 use Rattle.format.specs.Text.{rows, after, rows_from, text, letter, encode, Encoded}
 use Rattle.format.specs.Fields.{capital, unit_byte, isil_of, isil, alternative, is_owner, good_item, prefix_in, owner_said, good_owner, item_field, packed, basic_owner, owner_field}
 use Rattle.format.specs.Chain.{named, summed, well_formed, carriable, damage_steps, walk, chain, block_of, other_blocks, payload, fields_in, beyond, separated, sealed, block_with, library_in, good_library, library_bytes}
-use Rattle.format.specs.Elements.{Content, set_info, shape, form, value, place, known, el, put, clash, values_at, sound}
+use Rattle.format.specs.Elements.{Content, set_info, shape, form, value, known, el, put, clash, values_at, sound}
 use Rattle.format.specs.Sheet.{heads, bodies, sheet_of, offsets_fit, rising_from, rising, cut, entries_in, right_sheet, find, carried_in, content_of, good_values, entries_at, carried_entries, entries}
 use Rattle.format.specs.Layout.{library, front, basic, laid_out, image, layout, has_layout}
 use Rattle.format.specs.Reading.{walked, good_fields, agree, owner_on, content_in, tag_steps}

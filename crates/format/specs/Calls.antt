@@ -8,6 +8,8 @@ use Rattle.format.specs.Elements.{Content, known, el, put, value, clash}
 use Rattle.format.specs.Sheet.{sheet_of, fitting, entries_in, right_sheet, content_of, good_values, entries}
 use Rattle.format.specs.Layout.{image, fits}
 use Rattle.format.specs.Reading.{content_in, tag_steps}
+-- the page count, and the old element's length
+pub use Rattle.format.specs.declared.Edited.{Edited}
 
 -- ---- Reading: 1, 3, 4, 15 to 19, 6, 7, 14, 2
 
@@ -83,11 +85,6 @@ edit_steps p room t locks n s =
     need 2 (leb 255 room) ∷
     need 9 (known n && value n s) ∷
     laying_steps p locks t (put (content_in t) n s))
-
--- the page count, and the old element's length
-pub record Edited : Type 0 where
-  pub pages : ℕ
-  pub old : ℕ
 
 pub record EditOutcome : Type 0 where
   pub answer : Answer Edited

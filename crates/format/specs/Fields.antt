@@ -1,6 +1,6 @@
 -- What fields hold: ISIL and alternative owner (document 01, "Elements"), and the item and owner fields of the basic block ("The first 34
 -- bytes"), read and written by the same forms.
-use Rattle.std.specs.Prelude.{ℕ, ◌+◌, Bool, not, ◌&&◌, ◌||◌, List, [], ◌∷◌, ◌++◌, length, take, drop, get_or, leb, eqb, if◌then◌else◌}
+use Rattle.std.specs.Prelude.{ℕ, Bool, not, ◌&&◌, ◌||◌, List, [], ◌∷◌, ◌++◌, length, take, drop, get_or, leb, eqb, if◌then◌else◌}
 use Rattle.format.specs.Bytes.{is_empty, all, same, between, pad_with, pad, up_to, past}
 use Rattle.format.specs.Text.{text}
 

@@ -1,41 +1,56 @@
 -- The paper's number and values for each case of the answers (document 01, last paragraph), and what the contract of each call says of
 -- its answer and of the buffers.
-use Rattle.std.specs.Prelude.{◌≡◌, ℕ, Bool, true, false, ◌||◌, eqb, List, [], ◌∷◌}
+use Rattle.std.specs.Prelude.{◌≡◌, ℕ, Bool, true, false, ◌||◌, eqb, List, [], ◌∷◌, Result, Ok, Err}
 use Rattle.format.specs.Answers.{Answer, Refusal, plain, placed, got, refused, Step}
 use Rattle.format.specs.Bytes.{one_of}
 use Rattle.format.specs.Pages.{page_size}
-use Rattle.format.specs.Calls.{reading, writing, Edited, editing}
+use Rattle.format.specs.Calls.{reading, writing, editing}
+use Rattle.format.specs.declared.Reason.{Reason}
+use Rattle.format.specs.declared.Reason.TheVariants as reason
+use Rattle.format.specs.declared.Damage.{Damage}
+use Rattle.format.specs.declared.Damage.TheVariants as block
 use Rattle.format.specs.declared.Refusal as code
 use Rattle.format.specs.declared.Refusal.TheVariants as refusal
-use Rattle.format.specs.declared.NumberAnswer.{NumberAnswer}
-use Rattle.format.specs.declared.NumberAnswer.TheVariants as number
-use Rattle.format.specs.declared.ReadAnswer.{ReadAnswer}
-use Rattle.format.specs.declared.ReadAnswer.TheVariants as read
-use Rattle.format.specs.declared.EditAnswer.{EditAnswer}
-use Rattle.format.specs.declared.EditAnswer.TheVariants as edit
-use Rattle.format.specs.declared.Stage.{Stage}
-use Rattle.format.specs.declared.Stage.TheVariants as stage
+use Rattle.format.specs.declared.Edited.{Edited}
+
+abbrev pub reason_number : Reason → ℕ
+reason_number reason.Size = 1
+reason_number reason.Room = 2
+reason_number reason.Content = 3
+reason_number reason.Check = 4
+reason_number reason.Field = 6
+reason_number reason.Mismatch = 7
+reason_number reason.Sheet = 8
+reason_number reason.Value = 9
+reason_number reason.Clash = 10
+reason_number reason.Large = 11
+reason_number reason.Locked = 12
+reason_number reason.Loose = 13
+reason_number reason.Offset = 14
+reason_number reason.Word = 20
+reason_number reason.Character = 21
+reason_number reason.Parts = 22
+reason_number reason.Bank = 23
+
+abbrev pub damage_number : Damage → ℕ
+damage_number block.Length = 15
+damage_number block.End = 16
+damage_number block.Id = 17
+damage_number block.Checksum = 18
+damage_number block.Second = 19
 
 abbrev pub refusal_given : code.Refusal → Refusal
-refusal_given (refusal.Plain k) = plain k
-refusal_given (refusal.Placed k p) = placed k p
+refusal_given (refusal.Plain r) = plain (reason_number r)
+refusal_given (refusal.Placed d p) = placed (damage_number d) p
 
-abbrev pub answer_given : NumberAnswer → Answer ℕ
-answer_given (number.Done n) = got n
-answer_given (number.Refused k) = refused (plain k)
+-- the answer of a call, or of a stage of one, which is a step: what it got, or its refusal. `given` where no refusal has a place
+abbrev pub given : {A : Type 0} → Result A Reason → Answer A
+given (Ok a) = got a
+given (Err r) = refused (plain (reason_number r))
 
-abbrev pub read_given : ReadAnswer → Answer ℕ
-read_given (read.Done n) = got n
-read_given (read.Refused x) = refused (refusal_given x)
-
-abbrev pub edit_given : EditAnswer → Answer Edited
-edit_given (edit.Done p o) = got (record { pages = p; old = o })
-edit_given (edit.Refused x) = refused (refusal_given x)
-
--- a stage of a call is a step of it
-abbrev pub stage_given : Stage → Step
-stage_given stage.Passed = got tt
-stage_given (stage.Refused k) = refused (plain k)
+abbrev pub told : {A : Type 0} → Result A code.Refusal → Answer A
+told (Ok a) = got a
+told (Err x) = refused (refusal_given x)
 
 -- the numbers of damage
 unfoldable pub damage_numbers : List ℕ
@@ -103,18 +118,18 @@ result_of f (refused x) before = before
 -- ---- the contracts
 
 -- reading tag t into the lent sheet buffer answered r and left `sheet` in the buffer
-pub record Reads (t buffer : List ℕ) (r : ReadAnswer) (sheet : List ℕ) : Type 0 where
-  pub answered : read_given r ≡ (reading page_size t buffer).answer
+pub record Reads (t buffer : List ℕ) (r : Result ℕ code.Refusal) (sheet : List ℕ) : Type 0 where
+  pub answered : told r ≡ (reading page_size t buffer).answer
   pub left : sheet ≡ (reading page_size t buffer).sheet
 
 -- writing sheet s onto tag t answered r and left `tag` there
-pub record Writes (s t locks : List ℕ) (r : NumberAnswer) (tag : List ℕ) : Type 0 where
-  pub answered : answer_given r ≡ (writing page_size s t locks).answer
+pub record Writes (s t locks : List ℕ) (r : Result ℕ Reason) (tag : List ℕ) : Type 0 where
+  pub answered : given r ≡ (writing page_size s t locks).answer
   pub left : tag ≡ (writing page_size s t locks).tag
 
 -- editing element n of tag t answered r, left `tag` there and `old` in the old-element buffer
-pub record Edits (t locks : List ℕ) (n : ℕ) (s buffer : List ℕ) (r : EditAnswer) (tag old : List ℕ) : Type 0 where
-  pub answered : edit_given r ≡ (editing page_size t locks n s buffer).answer
+pub record Edits (t locks : List ℕ) (n : ℕ) (s buffer : List ℕ) (r : Result Edited code.Refusal) (tag old : List ℕ) : Type 0 where
+  pub answered : told r ≡ (editing page_size t locks n s buffer).answer
   pub left : tag ≡ (editing page_size t locks n s buffer).tag
   pub handed : old ≡ (editing page_size t locks n s buffer).old
 

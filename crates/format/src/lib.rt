@@ -1,62 +1,92 @@
-// The answers of the calls and of their stages. What each case means is said in `specs/Numbers.antt`; the refusals' numbers are the paper's.
+// What the calls answer: why one refuses, and where bytes stand. What each case means is said in `specs/Numbers.antt`; the refusals' numbers
+// are the paper's.
 #![tactic(auto)]
 
 ghost use Rattle.std.specs.Prelude.{◌≡◌};
-ghost use Rattle.format.specs.Numbers.{number_of, answer_given, stage_given};
+ghost use Rattle.format.specs.Numbers.{reason_number, damage_number, refusal_given, refusal_number};
+ghost use Rattle.format.specs.declared.Refusal.TheVariants as code;
+
+// Why a call refuses, by itself: the paper's names and numbers.
+#[derive(Clone, Copy, PartialEq, Eq)]
+pub enum Reason {
+    Size = 1,
+    Room = 2,
+    Content = 3,
+    Check = 4,
+    Field = 6,
+    Mismatch = 7,
+    Sheet = 8,
+    Value = 9,
+    Clash = 10,
+    Large = 11,
+    Locked = 12,
+    Loose = 13,
+    Offset = 14,
+    Word = 20,
+    Character = 21,
+    Parts = 22,
+    Bank = 23,
+}
+
+// What is wrong with a block of the chain.
+#[derive(Clone, Copy, PartialEq, Eq)]
+pub enum Damage {
+    Length = 15,
+    End = 16,
+    Id = 17,
+    Checksum = 18,
+    Second = 19,
+}
 
 // A refusal gives its number alone; one for damage its number and the byte where the damaged block begins.
-#[derive(Drop)]
+#[derive(Clone, Copy, PartialEq, Eq)]
 pub enum Refusal {
-    Plain(u32),
-    Placed { number: u32, place: usize },
+    Plain(Reason),
+    Placed { damage: Damage, place: usize },
 }
 
-// A number, or the number of the refusal. Writing gives the count of pages changed.
-#[derive(Drop)]
-pub enum NumberAnswer {
-    Done(usize),
-    Refused(u32),
-}
+// The paper's number of each.
+impl From<Reason> for u32 {
+    ghost from_gives = { λ reason n. n ≡ reason_number reason };
 
-// Reading: the sheet's length, or the refusal.
-#[derive(Drop)]
-pub enum ReadAnswer {
-    Done(usize),
-    Refused(Refusal),
-}
-
-// Editing: the count of pages changed and the old element's length, or the refusal.
-#[derive(Drop)]
-pub enum EditAnswer {
-    Done { pages: usize, old: usize },
-    Refused(Refusal),
-}
-
-// A stage of a call: passed, or the number of its refusal.
-#[derive(Drop)]
-pub enum Stage {
-    Passed,
-    Refused(u32),
-}
-
-// The number of a stage's refusal, 0 for none.
-pub fn stage_number(stage: Stage) -> u32
-    ensures { result ≡ number_of (stage_given stage) }
-{
-    match stage {
-        Stage::Passed => 0,
-        Stage::Refused(k) => k,
+    fn from(reason: Reason) -> u32 {
+        reason as u32
     }
 }
 
-// The number of an answer's refusal, 0 for none.
-pub fn answer_number(answer: NumberAnswer) -> u32
-    ensures { result ≡ number_of (answer_given answer) }
-{
-    match answer {
-        NumberAnswer::Done(_) => 0,
-        NumberAnswer::Refused(k) => k,
+impl From<Damage> for u32 {
+    ghost from_gives = { λ damage n. n ≡ damage_number damage };
+
+    fn from(damage: Damage) -> u32 {
+        damage as u32
     }
+}
+
+impl From<Refusal> for u32 {
+    ghost from_gives = { λ refusal n. n ≡ refusal_number (refusal_given refusal) };
+
+    fn from(refusal: Refusal) -> u32 {
+        match refusal {
+            Refusal::Plain(reason) => u32::from(reason),
+            Refusal::Placed { damage, place: _ } => u32::from(damage),
+        }
+    }
+}
+
+// A refusal without a place.
+impl From<Reason> for Refusal {
+    ghost from_gives = { λ reason r. r ≡ code.Plain reason };
+
+    fn from(reason: Reason) -> Refusal {
+        Refusal::Plain(reason)
+    }
+}
+
+// What an edit did: how many pages it changed, and how long the old element was.
+#[derive(Clone, Copy)]
+pub struct Edited {
+    pub pages: usize,
+    pub old: usize,
 }
 
 // Where some bytes stand in a slice: `len` of them from `at`.

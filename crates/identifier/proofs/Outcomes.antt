@@ -5,12 +5,15 @@ use mathlib.Core.Bool.{Bool, true, false, not, ◌&&◌}
 use mathlib.Core.List.{List}
 use lib.ListN.{length}
 use lib.Dec.{leb}
+use Rattle.std.specs.Prelude.{Ok, Err}
+use Rattle.format.specs.Numbers.{reason_number}
+use Rattle.format.specs.declared.Reason.{Reason}
 use borrow.Author.Tests.{le-leb, lt-leb, leb-true, leb-false}
 use Rattle.format.specs.Answers.{Answer, got, refused, plain, in_order}
 use Rattle.format.proofs.Answers.{next-ok, next-no, none-ok, afterwards-got, afterwards-refused}
 use Rattle.format.proofs.Tests.{never, and_l, and_r, and_i, and_left, and_no}
 use Rattle.words.proofs.Cases.{decide}
-use Rattle.identifier.specs.declared.PartedAnswer.TheVariants.{Done, Refused}
+use Rattle.identifier.specs.declared.Parted as code
 use Rattle.identifier.specs.Parts.{parts}
 use Rattle.identifier.specs.Elements.{three, Elements, right_count, good_parts, pointing, set_place, elements_of}
 use Rattle.identifier.specs.Calls.{Lengths, lengths, room_for, part_steps, filled_all, parting, FillsThree}
@@ -106,10 +109,10 @@ module _ (leads : Bool) (s : List ℕ) (buffers : Elements) where
       (λ r. count r (count_no r))
       -- ---- the contract, once the answer is known
 
-  pub three-refused : {k : ℕ} → answer ≡ refused (plain k) → FillsThree (parting leads s buffers) (Refused k) buffers
+  pub three-refused : {r : Reason} → answer ≡ refused (plain (reason_number r)) → FillsThree (parting leads s buffers) (Err r) buffers
   unfolding parting
-  three-refused {k} e = record { answered = sym e; left = sym (afterwards-refused _ (plain k) (filled_all its buffers) buffers e) }
+  three-refused {r} e = record { answered = sym e; left = sym (afterwards-refused _ (plain (reason_number r)) (filled_all its buffers) buffers e) }
 
-  pub three-done : {a b c : ℕ} (after : Elements) → answer ≡ got (three a b c) → after ≡ filled_all its buffers → FillsThree (parting leads s buffers) (Done a b c) after
+  pub three-done : {p : code.Parted} (after : Elements) → answer ≡ got (three p.item p.isil p.set) → after ≡ filled_all its buffers → FillsThree (parting leads s buffers) (Ok p) after
   unfolding parting
-  three-done {a} {b} {c} after e f = record { answered = sym e; left = f ∙ sym (afterwards-got _ (three a b c) (filled_all its buffers) buffers e) }
+  three-done {p} after e f = record { answered = sym e; left = f ∙ sym (afterwards-got _ (three p.item p.isil p.set) (filled_all its buffers) buffers e) }

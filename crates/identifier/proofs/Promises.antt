@@ -8,12 +8,15 @@ use mathlib.Core.Bool.{Bool, true, false, not}
 use mathlib.Core.List.{List, [], ◌∷◌, ◌++◌}
 use lib.ListN.{length, take, drop}
 use lib.Seq.{take-append_seam}
+use Rattle.std.specs.Prelude.{Result, Ok, Err}
+use Rattle.format.specs.declared.Reason.{Reason}
 use Rattle.format.specs.Answers.{Answer, Refusal, plain, got, refused, or_else}
 use Rattle.format.specs.Bytes.{all, is_empty, filled}
 use Rattle.format.specs.Elements.{parts_of, ordinal_of, set_bytes}
 use Rattle.format.specs.Numbers.{gives, one_gives, Each, none}
 use Rattle.format.specs.Demands.{Exact}
 use Rattle.format.proofs.Answers.{refused-inj, got-inj, worked, afterwards-got, afterwards-refused}
+use Rattle.format.proofs.Given.{given-same}
 use Rattle.format.proofs.Promises.{exactly}
 use Rattle.format.proofs.Refusals.{test, listed, zero-done}
 use Rattle.format.proofs.Tests.{never}
@@ -22,8 +25,7 @@ use Rattle.words.specs.Demands.{LeavesAlone, Done}
 use Rattle.words.proofs.Cases.{decide}
 use Rattle.words.proofs.Outcomes.{answer-bad, answer-short, answer-good, good-got, bad-refused, short-refused}
 use Rattle.words.proofs.Promises.{filled_zero}
-use Rattle.identifier.specs.declared.PartedAnswer.{PartedAnswer}
-use Rattle.identifier.specs.declared.PartedAnswer.TheVariants as parted
+use Rattle.identifier.specs.declared.Parted as code
 use Rattle.identifier.specs.Parts.{parts}
 use Rattle.identifier.specs.SetDigits.{digit, digits, total_in, ordinal_in}
 use Rattle.identifier.specs.Elements.{Elements, right_count, good_parts, pointing, set_place, good_elements, elements_of, identifier_of}
@@ -40,18 +42,17 @@ use Rattle.identifier.proofs.Outcomes.{room-for, for-room, short-for, for-short,
 -- ==== Demand 1: one answer and one content of each buffer, on every input; a refusal changes nothing and gives only its number
 
 -- two outcomes that fit a contract are equal (of putting together: `fills_one` and `c-fills-one` of `words`)
-parted-same : (r q : PartedAnswer) → parted_given r ≡ parted_given q → r ≡ q
-parted-same (parted.Done a b c) (parted.Done x y z) e =
-    let k = got-inj e in
-    let u : a ≡ x = ap (λ (n : Lengths). n.item) k in
-    let v : b ≡ y = ap (λ (n : Lengths). n.isil) k in
-    let w : c ≡ z = ap (λ (n : Lengths). n.set) k in
-    rw (u, v, w) refl
-parted-same (parted.Done a b c) (parted.Refused k) e = never (cc)
-parted-same (parted.Refused k) (parted.Done a b c) e = never (cc)
-parted-same (parted.Refused k) (parted.Refused j) e = let h : k ≡ j = cc in ap parted.Refused h
+parted_of : Lengths → code.Parted
+parted_of n = record { item = n.item; isil = n.isil; set = n.set }
 
-pub fills-three-one : (o : Parted) (r r' : PartedAnswer) (b b' : Elements) → FillsThree o r b → FillsThree o r' b' → (r ≡ r') × (b ≡ b')
+parted-same : (r q : Result code.Parted Reason) → parted_given r ≡ parted_given q → r ≡ q
+unfolding parted_of
+parted-same (Ok p) (Ok q) e = ap (λ n. Ok (parted_of n)) (got-inj e)
+parted-same (Ok p) (Err q) e = never (cc)
+parted-same (Err r) (Ok q) e = never (cc)
+parted-same (Err r) (Err q) e = let h = given-same {A = Lengths} (Err r) (Err q) e in cc
+
+pub fills-three-one : (o : Parted) (r r' : Result code.Parted Reason) (b b' : Elements) → FillsThree o r b → FillsThree o r' b' → (r ≡ r') × (b ≡ b')
 fills-three-one o r r' b b' x y = (parted-same r r' (x.answered ∙ sym y.answered), x.left ∙ sym y.left)
 
 pub c-fills-three-one : (o : Parted) (used : Lengths) (r r' : ℕ) (b b' : Elements) (u u' : Lengths) → FillsThreeC o used r b u → FillsThreeC o used r' b' u' → (r ≡ r') × (b ≡ b') × (u ≡ u')

@@ -1,11 +1,11 @@
 -- The two calls: document 02, E5. For each, its refusals in the paper's order, and its outcome. And what the contracts say of that.
-use Rattle.std.specs.Prelude.{◌≡◌, ℕ, Bool, not, ◌&&◌, List, [], ◌∷◌, length, leb}
+use Rattle.std.specs.Prelude.{◌≡◌, ℕ, Bool, not, ◌&&◌, List, [], ◌∷◌, length, leb, Result, Ok, Err}
 use Rattle.format.specs.Answers.{Answer, plain, got, refused, Step, need, in_order, afterwards, or_else}
 use Rattle.format.specs.Bytes.{filled}
-use Rattle.format.specs.Numbers.{Gives, alone, number_of}
+use Rattle.format.specs.Numbers.{Gives, alone, number_of, reason_number}
+use Rattle.format.specs.declared.Reason.{Reason}
 use Rattle.words.specs.Calls.{Outcome, filling}
-use Rattle.identifier.specs.declared.PartedAnswer.{PartedAnswer}
-use Rattle.identifier.specs.declared.PartedAnswer.TheVariants as parted
+use Rattle.identifier.specs.declared.Parted as code
 use Rattle.identifier.specs.Parts.{parts}
 use Rattle.identifier.specs.Elements.{Three, three, Elements, right_count, pointing, good_parts, set_place, elements_of, good_elements, identifier_of}
 
@@ -63,12 +63,12 @@ joining e buffer = filling (join_steps (length buffer) e) (identifier_of e) buff
 
 -- ---- the contracts; that of putting together is `Fills`, and `FillsC` in C
 
-abbrev pub parted_given : PartedAnswer → Answer Lengths
-parted_given (parted.Done a b c) = got (three a b c)
-parted_given (parted.Refused k) = refused (plain k)
+abbrev pub parted_given : Result code.Parted Reason → Answer Lengths
+parted_given (Ok p) = got (three p.item p.isil p.set)
+parted_given (Err r) = refused (plain (reason_number r))
 
 -- a call answered r and left `after` in the three buffers, as the outcome says
-pub record FillsThree (o : Parted) (r : PartedAnswer) (after : Elements) : Type 0 where
+pub record FillsThree (o : Parted) (r : Result code.Parted Reason) (after : Elements) : Type 0 where
   pub answered : parted_given r ≡ o.answer
   pub left : after ≡ o.buffers
 

@@ -3,59 +3,32 @@
 #![tactic(auto)]
 
 ghost use Rattle.std.specs.Prelude.{◌≡◌};
-ghost use Rattle.format.specs.Numbers.{number_of};
 ghost use Rattle.identifier.specs.Parts.{dotless};
 ghost use Rattle.identifier.specs.SetDigits.{width};
-ghost use Rattle.identifier.specs.Calls.{parted_given};
 
-// Taking apart: the length of each element, or the number of the refusal.
-#[derive(Drop)]
-pub enum PartedAnswer {
-    Done {
-        item: usize,
-        isil: usize,
-        set: usize,
-    },
-    Refused(u32),
-}
-
-// The number of its refusal, 0 for none.
-pub fn parted_number(answer: PartedAnswer) -> u32
-    ensures { result ≡ number_of (parted_given answer) }
-{
-    match answer {
-        PartedAnswer::Done {
-            item: _,
-            isil: _,
-            set: _,
-        } => 0,
-        PartedAnswer::Refused(k) => k,
-    }
+// What taking apart found: the length of each element.
+#[derive(Clone, Copy)]
+pub struct Parted {
+    pub item: usize,
+    pub isil: usize,
+    pub set: usize,
 }
 
 // How many digits a total has, and its ordinal.
+#[tactic(auto, unfolding(crate::specs::SetDigits::width))]
 pub fn width(total: u8) -> usize
     ensures { result ≡ width total }
 {
-    let one = total <= 9;
-    if one {
-        return 1;
+    match total {
+        0..=9 => 1,
+        10..=99 => 2,
+        _ => 3,
     }
-    if total <= 99 {
-        return 2;
-    }
-    3
 }
 
-// Is there no dot? The loop goes on past one: so the compiler looks at many bytes at once.
+// Is there no dot? The fold goes on past one: so the compiler looks at many bytes at once.
 pub fn is_dotless(s: &[u8]) -> bool
     ensures { result ≡ dotless s.now }
 {
-    let mut none = true;
-    let mut i: usize = 0;
-    while i < s.len() {
-        none = none & (s[i] != b'.');
-        i += 1;
-    }
-    none
+    s.iter().fold(true, |none, c| none & (*c != b'.'))
 }

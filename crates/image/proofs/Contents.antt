@@ -1,20 +1,23 @@
 -- Separated fields as the code has them: how long they are by their lengths, and how they are laid down one by one.
 use Rattle.std.specs.Prelude.{if◌then◌else◌}
-use mathlib.Core.Path.{◌≡◌, refl, sym, ap, ◌∙◌}
-use Prim.Native.Nat.{ℕ, suc, ◌+◌, ◌-◌, ◌≤◌, ◌<◌}
-use mathlib.Core.Logic.{◌⊎◌, inl, inr}
+use Rattle.std.specs.Int.{from_bool}
+use mathlib.Core.Path.{◌≡◌, refl, sym, ap, ap₂, ◌∙◌}
+use Prim.Native.Nat.{ℕ, suc, ◌+◌, ◌*◌, ◌≤◌}
+use mathlib.Core.Bool.{Bool, true, false, not}
 use native.Mathlib.Omega.{arith}
 use mathlib.Core.List.{List, [], ◌∷◌, ◌++◌, map, append-nil, append_assoc}
 use lib.Dec.{eqb}
-use lib.ListN.{length, get_or, drop, length-append}
-use borrow.Author.Tests.{eq-eqb, ne_eqb}
-use Rattle.format.specs.Bytes.{trim}
-use Rattle.format.specs.Pieces.{Stored}
+use lib.ListN.{length, get_or, length-append, get_or-map}
+use borrow.Author.Tests.{ne_eqb, eqb-true, leb-true}
+use Rattle.format.specs.Bytes.{all, bytes, trim}
+use Rattle.format.specs.Pieces.{Stored, nowhere}
 use Rattle.format.specs.Chain.{separated}
-use Rattle.format.proofs.Strings.{rest-opened, trim-some}
+use Rattle.format.specs.declared.Part.{Part}
+use Rattle.format.proofs.Tests.{never, and_l, and_r, bytes-at}
+use Rattle.format.proofs.Strings.{trim-some}
 use Rattle.format.proofs.Pieces.{stored-none}
-use Rattle.image.specs.Laying.{fields_size, Blank, On}
-use Rattle.image.proofs.Drafts.{start, put, gap, on-blank, ends}
+use Rattle.image.specs.Laying.{Lengths, fields_size, Few, Blank}
+use Rattle.image.proofs.Drafts.{On, start, put, gap, on-blank, ends}
 
 -- ---- how long they are
 
@@ -23,20 +26,72 @@ unfolding trim
 trim-size [] = refl
 trim-size (x ∷ r) = rw (ne_eqb (suc (length r)) 0 (λ z. omega arith))
 
-pub separated-size : (fs : List (List ℕ)) → length (separated fs) ≡ fields_size (map length fs)
+pub separated-size : (fs : List (List ℕ)) (fields : List Part) → Lengths fs fields → length (separated fs) ≡ fields_size fields
 unfolding separated fields_size
-separated-size [] = refl
-separated-size (f ∷ fs) =
-    length-append f (trim 0 (separated fs)) ∙ ap (λ (n : ℕ). length f + n) (trim-size (separated fs) ∙ ap (λ (n : ℕ). if eqb n 0 then 0 else suc n) (separated-size fs))
+separated-size [] [] e = refl
+separated-size [] (p ∷ fields) e = never (cc)
+separated-size (f ∷ fs) [] e = never (cc)
+separated-size (f ∷ fs) (p ∷ fields) e =
+    let here : length f ≡ p.len = cc in
+    let rest : map length fs ≡ map (λ (q : Part). q.len) fields = cc in
+    length-append f (trim 0 (separated fs)) ∙ ap₂ (λ (m n : ℕ). m + n) here (trim-size (separated fs) ∙ ap (λ (n : ℕ). if eqb n 0 then 0 else suc n) (separated-size fs fields rest))
 
--- the field before place k, and those from there on
-pub size-turn : (lens : List ℕ) (k n more : ℕ) → 0 < k → k ≤ length lens → n ≡ fields_size (drop k lens) → ((n ≡ 0) × (more ≡ n)) ⊎ ((n ≡ 0 → ⊥) × (more ≡ n + 1))
-    → more + get_or lens (k - 1) 0 ≡ fields_size (drop (k - 1) lens)
+-- each is an element, or nothing
+pub few-at : {fields : List Part} → Few fields → (k : ℕ) → (get_or fields k nowhere).len ≤ 255
+few-at {fields} f k = omega (arith, bytes-at k (map (λ (p : Part). p.len) fields) f.short, get_or-map (λ (p : Part). p.len) fields k nowhere)
+
+-- of these fields, those behind `rest` have this size: each, with its separator, is 256 bytes at most
+pub record Counted (fields rest : List Part) (size : ℕ) : Type 0 where
+  pub behind : List Part
+  pub are : fields ≡ rest ++ behind
+  pub is : size ≡ fields_size behind
+  pub most : size ≤ 256 * length behind
+
+pub counted-start : (fields : List Part) → Counted fields fields 0
 unfolding fields_size
-size-turn lens k n more some h e w =
-    let is : drop (k - 1) lens ≡ get_or lens (k - 1) 0 ∷ drop (k - 1 + 1) lens = rest-opened lens (k - 1) (omega arith) in
-    let on : k - 1 + 1 ≡ k = omega arith in
-    sym (ap fields_size (is ∙ ap (λ (i : ℕ). get_or lens (k - 1) 0 ∷ drop i lens) on) ∙ rw (← e) (elim w [ inl z ↦ rw (eq-eqb n 0 z.0) (omega (arith, z)) | inr z ↦ rw (ne_eqb n 0 z.0) (omega (arith, z.1)) ]))
+counted-start fields = record { behind = []; are = sym (append-nil fields); is = refl; most = omega arith }
+
+pub counted-end : (fields left : List Part) (size : ℕ) → length left ≡ 0 → length fields ≤ 4 → Counted fields left size → (size ≡ fields_size fields) × (size ≤ 1024)
+counted-end fields (p ∷ left) size z h c = absurd (omega (arith, z))
+counted-end fields [] size z h c = (c.is ∙ ap fields_size (sym c.are), omega (arith, c.most, ap length c.are, h))
+
+short-part : (ps qs : List Part) (p : Part) → bytes (map (λ (q : Part). q.len) (ps ++ p ∷ qs)) ≡ true → p.len ≤ 255
+unfolding all
+short-part [] qs p e = leb-true p.len 255 (and_l _ _ e)
+short-part (q ∷ ps) qs p e = short-part ps qs p (and_r _ _ e)
+
+-- one field more, with a separator where something follows
+module _ {fields left : List Part} {size : ℕ} (few : Few fields) (c : Counted fields left size) (rest : List Part) (p : Part) (e : left ≡ rest ++ p ∷ []) where
+  whole : fields ≡ rest ++ (p ∷ c.behind)
+  whole = c.are ∙ ap (λ (ps : List Part). ps ++ c.behind) e ∙ append_assoc rest (p ∷ []) c.behind
+
+  small : p.len ≤ 255
+  small = short-part rest c.behind p (ap (λ (ps : List Part). bytes (map (λ (q : Part). q.len) ps)) (sym whole) ∙ few.short)
+
+  module _ (between : ℕ) (w : between ≡ from_bool (not (eqb size 0))) where
+    one : between ≤ 1
+    one = go (eqb size 0) between w
+      where
+        go : (t : Bool) (n : ℕ) → n ≡ from_bool (not t) → n ≤ 1
+        go true n h = omega (arith, h)
+        go false n h = omega (arith, h)
+
+    pub counted-small : p.len + between ≤ 256
+    counted-small = omega (arith, small, one)
+
+    most : size + (p.len + between) ≤ 256 * length (p ∷ c.behind)
+    most = omega (arith, counted-small, c.most)
+
+    pub counted-fits : size + (p.len + between) ≤ 1024
+    counted-fits = omega (arith, most, ap length whole, length-append rest (p ∷ c.behind), few.count)
+
+    pub counted-more : Counted fields rest (size + (p.len + between))
+    unfolding fields_size
+    counted-more = record { behind = p ∷ c.behind; are = whole; is = rw (← c.is) (go (eqb size 0) refl w); most = most }
+      where
+        go : (t : Bool) → eqb size 0 ≡ t → between ≡ from_bool (not t) → size + (p.len + between) ≡ p.len + (if t then 0 else suc size)
+        go true z h = omega (arith, eqb-true size 0 z, h)
+        go false z h = omega (arith, h)
 
 -- ---- laid down one by one
 

@@ -1,11 +1,12 @@
 -- The CRC's place in a layout: what stands there changes nothing that the CRC covers.
 use mathlib.Core.Path.{◌≡◌, refl, sym, ap, ap₂, ◌∙◌}
 use Prim.Native.Nat.{ℕ, suc, ◌+◌, ◌-◌, ◌≤◌}
+use native.Mathlib.Nat.{sub-zero}
 use native.Mathlib.Omega.{arith}
 use mathlib.Core.Bool.{true}
 use mathlib.Core.List.{List, [], ◌∷◌, ◌++◌, append_assoc, append-nil}
 use lib.Dec.{leb}
-use lib.ListN.{length, take, drop, set, replicate, length-set, length-append, length-replicate, length-take, length-drop, take-append-drop}
+use lib.ListN.{length, take, drop, replicate, length-append, length-replicate, length-take, length-drop, take-append-drop}
 use lib.Seq.{take_at, drop_at, take-append-add, drop-drop, length-take-le}
 use borrow.Author.Tests.{le-leb, leb-true}
 use Rattle.format.specs.Bytes.{same, le16, part, pad_with, pad}
@@ -15,7 +16,6 @@ use Rattle.format.specs.Chain.{block_one}
 use Rattle.format.specs.Elements.{slot}
 use Rattle.format.specs.Layout.{owner_width, owner_of, library, front, basic, laid_out, layout, has_layout}
 use Rattle.format.proofs.Tests.{and_r, same_truth, same-eq}
-use Rattle.format.proofs.Pieces.{stored-byte, stored-then}
 use Rattle.format.proofs.Strings.{nil-of, le16-length, length-pad}
 use Rattle.format.proofs.Layouts.{item-length, owner-length}
 use Rattle.image.specs.Laying.{zeros}
@@ -48,11 +48,6 @@ module _ (s d : List ℕ) (two : length s ≡ 2) (long : 21 ≤ length d) where
 check-same : (d : List ℕ) → with_check (part 19 2 d) d ≡ d
 check-same d =
     ap (λ (x : List ℕ). take 19 d ++ (part 19 2 d ++ x)) (sym (drop-drop 2 19 d)) ∙ ap (λ (x : List ℕ). take 19 d ++ x) (take-append-drop 2 (drop 19 d)) ∙ take-append-drop 19 d
-
--- two bytes stored there
-pub put-check : (d : List ℕ) (low high : ℕ) → 21 ≤ length d → set (set d 19 low) 20 high ≡ with_check (low ∷ high ∷ []) d
-put-check d low high h =
-    (stored-then d (set d 19 low) (set (set d 19 low) 20 high) (low ∷ []) (high ∷ []) 19 20 21 (omega arith) (stored-byte d 19 low (omega arith)) (stored-byte (set d 19 low) 20 high (simp length-set (omega arith)))).1
 
 pub sealing-long : (d : List ℕ) → 21 ≤ length d → sealing d ≡ checked d
 unfolding sealing
@@ -156,6 +151,10 @@ zeros-fresh d t m e z =
 
 pub lent-fresh : (t : List ℕ) (m : ℕ) → length t ≤ m → Fresh (take (length t - 0) (replicate m 0)) t
 lent-fresh t m h = zeros-fresh _ t (length t) refl (front-zeros (length t) m h)
+
+-- the front, as a draft of any length lends it
+pub front-fresh : (t : List ℕ) (m : ℕ) → length t ≤ m → Fresh (take (length t) (replicate m 0)) t
+front-fresh t m h = rw (sub-zero (length t)) at (lent-fresh t m h)
 
 pub cleared-fresh : (d d' t : List ℕ) (m : ℕ) → Fresh d t → m ≡ length d → d' ≡ replicate m 0 → Fresh d' t
 cleared-fresh d d' t m f e z = zeros-fresh d' t m (e ∙ f.long) z

@@ -15,8 +15,9 @@ use Rattle.format.specs.Fields.{long, item_field, basic_owner, owner_field}
 use Rattle.format.specs.Chain.{separated, sealed, block_with, Library, library_fields, library_bytes, block_one}
 use Rattle.format.specs.Elements.{places, numbers, place, slot, value, clash}
 use Rattle.format.specs.Layout.{owner_width, owner_of, usage_of, library, first_byte, front, basic, laid_out, has_layout}
-use Rattle.format.specs.Pieces.{Stored}
-use Rattle.format.proofs.Tests.{and_l, and_r, and_i, or-false, bytes-at}
+use Rattle.format.specs.Pieces.{Stored, nowhere}
+use Rattle.format.specs.declared.Part.{Part}
+use Rattle.format.proofs.Tests.{and_l, and_r, and_i, or-false}
 use Rattle.format.proofs.Strings.{nil-of, empty-length, trim-other}
 use Rattle.format.proofs.Slots.{values_length, values-at}
 use Rattle.format.proofs.Values.{value-short, value-isil, value-alternative, value-usage, value_set, owner-either}
@@ -24,38 +25,47 @@ use Rattle.format.proofs.Blocks.{sealed-length}
 use Rattle.format.proofs.Layouts.{owner-length, basic-length}
 use Rattle.format.proofs.Pieces.{stored-none}
 use Rattle.rows.specs.Rows.{slots_at, Stands, Row, none, next}
-use Rattle.rows.proofs.Rows.{row-lengths, slots_length, row_at, slot_at, lengths-are, row-short}
-use Rattle.image.specs.Laying.{Lengths, OwnerOrNone, content, Few, zeros, On}
+use Rattle.rows.proofs.Rows.{slots_length, row_at, slot_at, standing-length, lengths-are}
+use Rattle.image.specs.Laying.{Lengths, Holds, OwnerOrNone, content, Few, zeros}
 use Rattle.image.specs.Drafting.{Draftable, unsealed}
-use Rattle.image.proofs.Drafts.{drop-zeros, blank-all, start, on-length, put, gap}
+use Rattle.image.proofs.Drafts.{On, drop-zeros, blank-all, start, on-length, put, gap}
 use Rattle.image.proofs.Laws.{front_length, own, tail, shape-front, shape_behind}
 
 -- ---- by the lengths
 
-module _ (ss : List (List ℕ)) (lens : List ℕ) (s : Lengths ss lens) where
-  length_at : (k : ℕ) → length (get_or ss k []) ≡ get_or lens k 0
-  length_at k = sym (get_or-map length ss k []) ∙ ap (λ (l : List ℕ). get_or l k 0) s
+module _ (ss : List (List ℕ)) (row : List Part) (s : Lengths ss row) where
+  length_at : (k : ℕ) → length (get_or ss k []) ≡ (get_or row k nowhere).len
+  length_at k = sym (get_or-map length ss k []) ∙ ap (λ (l : List ℕ). get_or l k 0) s ∙ get_or-map (λ (p : Part). p.len) row k nowhere
 
-  empty-at : (k : ℕ) → is_empty (get_or ss k []) ≡ eqb (get_or lens k 0) 0
+  empty-at : (k : ℕ) → is_empty (get_or ss k []) ≡ eqb (get_or row k nowhere).len 0
   empty-at k = empty-length (get_or ss k []) ∙ ap (λ (n : ℕ). eqb n 0) (length_at k)
 
-  pub clash-lengths : clash ss ≡ (not (eqb (get_or lens (place 3) 0) 0) && not (eqb (get_or lens (place 23) 0) 0)) || (not (eqb (get_or lens (place 22) 0) 0) && leb 17 (get_or lens (place 1) 0))
+  pub clash-lengths : clash ss ≡ (not (eqb (get_or row (place 3) nowhere).len 0) && not (eqb (get_or row (place 23) nowhere).len 0))
+      || (not (eqb (get_or row (place 22) nowhere).len 0) && leb 17 (get_or row (place 1) nowhere).len)
   unfolding clash
   clash-lengths = rw (empty-at (place 3), empty-at (place 23), empty-at (place 22), length_at (place 1))
 
-  pub owner-other : get_or lens (place 3) 0 ≡ 0 → slot ss 23 ≡ owner_of ss
-  owner-other e = rw (empty-at (place 3), eq-eqb (get_or lens (place 3) 0) 0 e)
+  pub owner-other : (get_or row (place 3) nowhere).len ≡ 0 → slot ss 23 ≡ owner_of ss
+  owner-other e = rw (empty-at (place 3), eq-eqb (get_or row (place 3) nowhere).len 0 e)
 
-  pub owner-isil : (get_or lens (place 3) 0 ≡ 0 → ⊥) → slot ss 3 ≡ owner_of ss
-  owner-isil n = rw (empty-at (place 3), ne_eqb (get_or lens (place 3) 0) 0 n)
+  pub owner-isil : ((get_or row (place 3) nowhere).len ≡ 0 → ⊥) → slot ss 3 ≡ owner_of ss
+  owner-isil n = rw (empty-at (place 3), ne_eqb (get_or row (place 3) nowhere).len 0 n)
 
-  pub item-long : 16 < get_or lens (place 1) 0 → slot ss 1 ≡ (if long (slot ss 1) then slot ss 1 else slot ss 22)
-  item-long h = rw (length_at (place 1), le-leb 17 (get_or lens (place 1) 0) h)
+  pub item-long : 16 < (get_or row (place 1) nowhere).len → slot ss 1 ≡ (if long (slot ss 1) then slot ss 1 else slot ss 22)
+  item-long h = rw (length_at (place 1), le-leb 17 (get_or row (place 1) nowhere).len h)
 
-  pub item-short : get_or lens (place 1) 0 ≤ 16 → slot ss 22 ≡ (if long (slot ss 1) then slot ss 1 else slot ss 22)
-  item-short h = rw (length_at (place 1), lt-leb 17 (get_or lens (place 1) 0) (omega arith))
+  pub item-short : (get_or row (place 1) nowhere).len ≤ 16 → slot ss 22 ≡ (if long (slot ss 1) then slot ss 1 else slot ss 22)
+  item-short h = rw (length_at (place 1), lt-leb 17 (get_or row (place 1) nowhere).len (omega arith))
 
 -- ---- by the row, and the values
+
+-- the element at place k of a row
+pub held-at : {src made : List ℕ} {row : List Part} → Row src made row → (k : ℕ) → k < length row → {x : List ℕ} → get_or (slots_at (src ++ made) row) k [] ≡ x
+    → Holds src made (get_or row k nowhere) x
+held-at {src} {made} {row} r k h e = record { stands = row_at src made row r k nowhere h; is = sym (slot_at (src ++ made) row k nowhere h) ∙ e }
+
+pub held-length : {src made : List ℕ} {p : Part} {x : List ℕ} → Holds src made p x → length x ≡ p.len
+held-length {src} {made} {p} h = ap length (sym h.is) ∙ standing-length src made p h.stands
 
 -- what holds of both holds of either
 either : (P : List ℕ → Type 0) (t : Bool) (x y : List ℕ) → P x → P y → P (if t then x else y)
@@ -63,33 +73,32 @@ either P true x y p q = p
 either P false x y p q = q
 
 -- these are block 1's fields
-pub record Fielded (src made froms sizes : List ℕ) (f : Library) : Type 0 where
-  pub row : Row src made froms sizes
-  pub few : Few sizes
-  pub are : slots_at (src ++ made) froms sizes ≡ library_fields f
+pub record Fielded (src made : List ℕ) (fields : List Part) (f : Library) : Type 0 where
+  pub row : Row src made fields
+  pub few : Few fields
+  pub are : slots_at (src ++ made) fields ≡ library_fields f
 
 at_most : (t : Bool) (n : ℕ) → (if t then 0 else n) ≤ n
 at_most true n = omega arith
 at_most false n = omega arith
 
-module _ {src made ats lens d : List ℕ} (p : Draftable src made ats lens d) where
+-- the part p, or nothing of it
+shorter : (src made : List ℕ) (p : Part) → Stands src made p → (n : ℕ) → n ≤ p.len → Stands src made (record p { len = n })
+shorter src made p s n h = elim s [ inl e ↦ inl (omega (arith, e, h)) | inr e ↦ inr (e.0, omega (arith, e.1, h)) ]
+
+module _ {src made : List ℕ} {row : List Part} {d : List ℕ} (p : Draftable src made row d) where
   abbrev pub ss : List (List ℕ)
-  ss = slots_at (src ++ made) ats lens
+  ss = slots_at (src ++ made) row
 
-  pub sized : Lengths ss lens
-  sized = lengths-are src made ats lens p.row
+  pub sized : Lengths ss row
+  sized = lengths-are src made row p.row
 
-  each : length ats ≡ places
-  each = sym (slots_length (src ++ made) ats lens (row-lengths src made ats lens p.row)) ∙ values_length numbers ss p.values
+  each : length row ≡ places
+  each = sym (slots_length (src ++ made) row) ∙ values_length numbers ss p.values
 
-  pub stands : (k : ℕ) → k < places → (k < places) × Stands src made (get_or ats k 0) (get_or lens k 0)
-  stands k h = (h, row_at src made ats lens p.row k (omega (arith, each)))
-
-  stands-less : (k n : ℕ) → k < places → n ≤ get_or lens k 0 → Stands src made (get_or ats k 0) n
-  stands-less k n i h = elim (stands k i).1 [ inl e ↦ inl (omega (arith, e, h)) | inr e ↦ inr (e.0, omega (arith, e.1, h)) ]
-
-  pub slot_is : (k : ℕ) → k < places → part (get_or ats k 0) (get_or lens k 0) (src ++ made) ≡ get_or ss k []
-  slot_is k h = sym (slot_at (src ++ made) ats lens (row-lengths src made ats lens p.row) k (omega (arith, each)))
+  -- the element at each place
+  pub element : (k : ℕ) → k < places → Holds src made (get_or row k nowhere) (get_or ss k [])
+  element k h = held-at p.row k (omega (arith, each)) refl
 
   value-at : (k : ℕ) → k < places → value (get_or numbers k 0) (get_or ss k []) ≡ true
   value-at k h = values-at numbers ss p.values k h
@@ -114,61 +123,59 @@ module _ {src made ats lens d : List ℕ} (p : Draftable src made ats lens d) wh
           short = either (λ s. length s ≤ 255) (is_empty isil) other isil (value-short 23 other v23) (value-short 3 isil v3);
         }
 
-  short-at : (k : ℕ) → get_or lens k 0 ≤ 255
-  short-at k = bytes-at k lens (row-short src made ats lens p.row numbers p.values)
+  short-slot : (n : ℕ) → place n < places → get_or numbers (place n) 0 ≡ n → length (slot ss n) ≤ 255
+  short-slot n h e = value-short n (slot ss n) (rw e at (value-at (place n) h))
 
   -- block 1's fields, as the code finds them: the item, the owner's length if it belongs there, the usage byte's
-  module _ (n item name behind code : ℕ) (hi : item < places) (hn : name < places) (ei : get_or ss item [] ≡ (library n ss).item) (en : get_or ss name [] ≡ owner_of ss)
+  module _ (n : ℕ) (item name : Part) (behind code : ℕ) (ei : Holds src made item (library n ss).item) (en : Holds src made name (owner_of ss))
       (eb : behind ≡ (if is_empty (owner_of ss) || basic_owner (owner_width n) (owner_of ss) then 0 else length (owner_of ss))) (ec : code ≡ (if eqb (usage_of ss % 16) 0 then 0 else 1)) where
-    abbrev froms : List ℕ
-    froms = get_or ats item 0 ∷ get_or ats name 0 ∷ get_or ats (place 5) 0 ∷ []
+    abbrev usage : Part
+    usage = get_or row (place 5) nowhere
 
-    abbrev sizes : List ℕ
-    sizes = get_or lens item 0 ∷ behind ∷ code ∷ []
+    abbrev fields : List Part
+    fields = item ∷ record name { len = behind } ∷ record usage { len = code } ∷ []
 
-    owner-long : length (owner_of ss) ≡ get_or lens name 0
-    owner-long = ap length (sym en) ∙ length_at ss lens sized name
+    usage-held : Holds src made usage (slot ss 5)
+    usage-held = element (place 5) (omega arith)
 
-    usage-long : get_or lens (place 5) 0 ≡ 1
-    usage-long = sym (length_at ss lens sized (place 5)) ∙ usage-one
-
-    owner-some : behind ≤ get_or lens name 0
-    owner-some = omega (arith, eb, owner-long, at_most (is_empty (owner_of ss) || basic_owner (owner_width n) (owner_of ss)) (length (owner_of ss)))
+    owner-some : behind ≤ name.len
+    owner-some = omega (arith, eb, held-length en, at_most (is_empty (owner_of ss) || basic_owner (owner_width n) (owner_of ss)) (length (owner_of ss)))
 
     usage-some : code ≤ 1
     usage-some = omega (arith, ec, at_most (eqb (usage_of ss % 16) 0) 1)
 
-    fields-row : Row src made froms sizes
-    fields-row = next (stands item hi).1 (next (stands-less name behind hn owner-some) (next (stands-less (place 5) code (omega arith) (omega (arith, usage-some, usage-long))) none))
+    fields-row : Row src made fields
+    fields-row = next ei.stands (next (shorter src made name en.stands behind owner-some) (next (shorter src made usage usage-held.stands code (omega (arith, usage-some, held-length usage-held, usage-one))) none))
 
-    fields-few : Few sizes
-    unfolding all
-    fields-few = record {
+    fields-few : (length (owner_of ss) ≤ 255) → Few fields
+    unfolding all library
+    fields-few o = record {
       count = omega arith;
-      short = and_i (le-leb _ 255 (short-at item)) (and_i (le-leb behind 255 (omega (arith, owner-some, short-at name))) (and_i (le-leb code 255 (omega (arith, usage-some))) refl));
+      short = and_i (le-leb item.len 255 (omega (arith, held-length ei, either (λ s. length s ≤ 255) (long (slot ss 1)) (slot ss 1) (slot ss 22) (short-slot 1 (omega arith) refl) (short-slot 22 (omega arith) refl))))
+          (and_i (le-leb behind 255 (omega (arith, owner-some, held-length en, o))) (and_i (le-leb code 255 (omega (arith, usage-some))) refl));
     }
 
-    owner-field : part (get_or ats name 0) behind (src ++ made) ≡ (library n ss).owner
+    owner-field : part name.at behind (src ++ made) ≡ (library n ss).owner
     unfolding library
     owner-field = go (is_empty (owner_of ss) || basic_owner (owner_width n) (owner_of ss)) eb
       where
-        go : (t : Bool) → behind ≡ (if t then 0 else length (owner_of ss)) → part (get_or ats name 0) behind (src ++ made) ≡ (if t then [] else owner_of ss)
+        go : (t : Bool) → behind ≡ (if t then 0 else length (owner_of ss)) → part name.at behind (src ++ made) ≡ (if t then [] else owner_of ss)
         go true e = rw e
-        go false e = rw (e ∙ owner-long) (slot_is name hn ∙ en)
+        go false e = rw (e ∙ held-length en) en.is
 
-    usage-field : part (get_or ats (place 5) 0) code (src ++ made) ≡ trim (library n ss).usage []
+    usage-field : part usage.at code (src ++ made) ≡ trim (library n ss).usage []
     unfolding library trim
     usage-field = go (eqb (usage_of ss % 16) 0) refl ec
       where
-        go : (t : Bool) → eqb (usage_of ss % 16) 0 ≡ t → code ≡ (if t then 0 else 1) → part (get_or ats (place 5) 0) code (src ++ made) ≡ trim (if t then 0 else usage_of ss) []
+        go : (t : Bool) → eqb (usage_of ss % 16) 0 ≡ t → code ≡ (if t then 0 else 1) → part usage.at code (src ++ made) ≡ trim (if t then 0 else usage_of ss) []
         go true z e = rw e
         go false z e =
             let some : usage_of ss ≡ 0 → ⊥ = λ h. eqb-false (usage_of ss % 16) 0 z (rw h) in
-            rw (e ∙ sym usage-long) (slot_is (place 5) (omega arith) ∙ value-usage (slot ss 5) (value-at (place 5) (omega arith))) ∙ sym (trim-other (usage_of ss) [] some)
+            rw (e ∙ sym usage-one ∙ held-length usage-held) (usage-held.is ∙ value-usage (slot ss 5) (value-at (place 5) (omega arith))) ∙ sym (trim-other (usage_of ss) [] some)
 
-    pub fields-found : Fielded src made froms sizes (library n ss)
+    pub fields-found : (length (owner_of ss) ≤ 255) → Fielded src made fields (library n ss)
     unfolding slots_at
-    fields-found = record { row = fields-row; few = fields-few; are = rw (slot_is item hi ∙ ei, owner-field, usage-field) }
+    fields-found o = record { row = fields-row; few = fields-few o; are = rw (ei.is, owner-field, usage-field) }
 
 -- ---- block 1
 
@@ -189,21 +196,21 @@ block-some zero (y ∷ r) n = (refl, sealed-length 1 (zero ∷ y ∷ r) ∙ omeg
 block-some (suc m) r n = (refl, sealed-length 1 (suc m ∷ r) ∙ omega arith)
 
 -- its size, by the code, and its bytes
-module _ {src made froms sizes : List ℕ} {f : Library} (h : Fielded src made froms sizes f) (media size : ℕ) (em : media ≡ f.media)
-    (es : (fs : List (List ℕ)) → Lengths fs sizes → size ≡ length (block_with 1 (trim media (separated fs)))) where
+module _ {src made : List ℕ} {fields : List Part} {f : Library} (h : Fielded src made fields f) (media size : ℕ) (em : media ≡ f.media)
+    (es : (fs : List (List ℕ)) → Lengths fs fields → size ≡ length (block_with 1 (trim media (separated fs)))) where
   pub size_is : size ≡ length (block_one f)
   unfolding library_bytes
-  size_is = es (library_fields f) (ap (map length) (sym h.are) ∙ lengths-are src made froms sizes h.row) ∙ rw em
+  size_is = es (library_fields f) (ap (map length) (sym h.are) ∙ lengths-are src made fields h.row) ∙ rw em
 
   module _ (some : size ≡ 0 → ⊥) where
     filled : (block_one f ≡ sealed 1 (f.media ∷ separated (library_fields f))) × (length (block_one f) ≡ 5 + length (separated (library_fields f)))
     unfolding library_bytes
     filled = block-some f.media (separated (library_fields f)) (λ z. some (size_is ∙ z))
 
-    pub block-is : sealed 1 (media ∷ content src made froms sizes) ≡ block_one f
+    pub block-is : sealed 1 (media ∷ content src made fields) ≡ block_one f
     block-is = rw (em, h.are) (sym filled.0)
 
-    pub content-long : size ≡ 5 + length (content src made froms sizes)
+    pub content-long : size ≡ 5 + length (content src made fields)
     content-long = rw h.are (size_is ∙ filled.1)
 
 -- ---- room

@@ -1,12 +1,13 @@
 -- The writer's own layout of a row of elements, on a draft: what is answered, and what the draft then holds. The layout is `format`'s.
-use Rattle.std.specs.Prelude.{◌≡◌, ℕ, ◌≤◌, true, not, List, [], ◌∷◌, ◌++◌, leb, length, take, drop, replicate, if◌then◌else◌}
+use Rattle.std.specs.Prelude.{◌≡◌, ℕ, ◌≤◌, true, not, List, [], ◌∷◌, ◌++◌, Result, leb, length, take, drop, replicate, if◌then◌else◌}
 use Rattle.format.specs.Answers.{Step, need, in_order, afterwards}
 use Rattle.format.specs.Bytes.{le16}
 use Rattle.format.specs.Crc.{crc, covered}
 use Rattle.format.specs.Elements.{numbers, clash, values_at}
 use Rattle.format.specs.Layout.{layout, has_layout}
-use Rattle.format.specs.Numbers.{stage_given}
-use Rattle.format.specs.declared.Stage.{Stage}
+use Rattle.format.specs.Numbers.{given}
+use Rattle.format.specs.declared.Part.{Part}
+use Rattle.format.specs.declared.Reason.{Reason}
 use Rattle.rows.specs.Rows.{slots_at, Row}
 
 -- ---- the CRC's place in a draft
@@ -39,13 +40,13 @@ pub record Fresh (d t : List ℕ) : Type 0 where
   pub blank : d ≡ replicate (length d) 0
 
 -- a row of values, and a draft of 00 as long as a tag at least
-pub record Draftable (src made ats lens draft : List ℕ) : Type 0 where
-  pub row : Row src made ats lens
-  pub values : values_at numbers (slots_at (src ++ made) ats lens) ≡ true
+pub record Draftable (src made : List ℕ) (elements : List Part) (draft : List ℕ) : Type 0 where
+  pub row : Row src made elements
+  pub values : values_at numbers (slots_at (src ++ made) elements) ≡ true
   pub size : 32 ≤ length draft
   pub blank : draft ≡ replicate (length draft) 0
 
 -- drafting the row's elements, with these blocks behind them, answered r and left draft'
-pub record Drafted (src made ats lens blocks draft : List ℕ) (r : Stage) (draft' : List ℕ) : Type 0 where
-  pub answered : stage_given r ≡ drafting (length draft) (slots_at (src ++ made) ats lens) blocks
-  pub left : draft' ≡ afterwards (stage_given r) (unsealed (length draft) (slots_at (src ++ made) ats lens) blocks) draft
+pub record Drafted (src made : List ℕ) (row : List Part) (blocks draft : List ℕ) (r : Result (Unit {0}) Reason) (draft' : List ℕ) : Type 0 where
+  pub answered : given r ≡ drafting (length draft) (slots_at (src ++ made) row) blocks
+  pub left : draft' ≡ afterwards (given r) (unsealed (length draft) (slots_at (src ++ made) row) blocks) draft

@@ -1,17 +1,22 @@
 -- Laying elements down on a draft: what the private functions rely on. No rule of document 01 stands here: the layout is `format`'s.
 use Rattle.std.specs.Prelude.{◌≡◌, ◌⊎◌, ℕ, suc, ◌+◌, ◌-◌, ◌≤◌, true, List, [], ◌∷◌, ◌++◌, map, eqb, length, drop, get_or, replicate, if◌then◌else◌}
-use Rattle.format.specs.Bytes.{bytes}
-use Rattle.format.specs.Pieces.{Stored}
+use Rattle.format.specs.Bytes.{bytes, part}
 use Rattle.format.specs.Fields.{is_owner, basic_owner}
 use Rattle.format.specs.Chain.{separated}
 use Rattle.format.specs.Layout.{owner_width}
-use Rattle.rows.specs.Rows.{slots_at, Row}
+use Rattle.format.specs.declared.Part.{Part}
+use Rattle.rows.specs.Rows.{slots_at, Stands, Row}
 
 -- ---- elements
 
--- the slots have these lengths
-abbrev pub Lengths : List (List ℕ) → List ℕ → Type 0
-Lengths ss lens = map length ss ≡ lens
+-- the strings are as long as the parts say
+abbrev pub Lengths : List (List ℕ) → List Part → Type 0
+Lengths ss row = map length ss ≡ map (λ (p : Part). p.len) row
+
+-- a part stands in the source or in what was made, and its bytes are s
+pub record Holds (src made : List ℕ) (p : Part) (s : List ℕ) : Type 0 where
+  pub stands : Stands src made p
+  pub is : part p.at p.len (src ++ made) ≡ s
 
 -- an owner, as long as an element may be, or nothing
 pub record OwnerOrNone (o : List ℕ) : Type 0 where
@@ -28,12 +33,6 @@ zeros n = replicate n 0
 abbrev pub Blank : ℕ → List ℕ → Type 0
 Blank at d = drop at d ≡ zeros (length d - at)
 
--- d is o, 00 from byte `at` on, with s stored there; m is the place behind s
-pub record On (at : ℕ) (o s : List ℕ) (m : ℕ) (d : List ℕ) : Type 0 where
-  pub blank : Blank at o
-  pub room : m ≤ length o
-  pub is : Stored o at s m d
-
 -- an owner or nothing, and the owner field of d is 00
 pub record OwnerFits (o d : List ℕ) : Type 0 where
   pub size : 32 ≤ length d
@@ -49,31 +48,30 @@ pub record IsilFits (o d : List ℕ) : Type 0 where
 -- ---- the fields of a block
 
 -- how many bytes fields of these lengths have with a 00 between them, and none behind the last that is there
-unfoldable pub fields_size : List ℕ → ℕ
+unfoldable pub fields_size : List Part → ℕ
 fields_size [] = 0
-fields_size (n ∷ ns) = n + (if eqb (fields_size ns) 0 then 0 else suc (fields_size ns))
+fields_size (p ∷ ps) = p.len + (if eqb (fields_size ps) 0 then 0 else suc (fields_size ps))
 
 -- no more than a block has, none longer than an element
-pub record Few (lens : List ℕ) : Type 0 where
-  pub count : length lens ≤ 4
-  pub short : bytes lens ≡ true
+pub record Few (fields : List Part) : Type 0 where
+  pub count : length fields ≤ 4
+  pub short : bytes (map (λ (p : Part). p.len) fields) ≡ true
 
 -- what they hold: they stand in the source or in what was made
-abbrev pub content : List ℕ → List ℕ → List ℕ → List ℕ → List ℕ
-content src made ats lens = separated (slots_at (src ++ made) ats lens)
+abbrev pub content : List ℕ → List ℕ → List Part → List ℕ
+content src made fields = separated (slots_at (src ++ made) fields)
 
 -- they have room from byte `at` of d on
-pub record FieldsFit (src made ats lens : List ℕ) (at : ℕ) (d : List ℕ) : Type 0 where
-  pub few : Few lens
-  pub row : Row src made ats lens
+pub record FieldsFit (src made : List ℕ) (fields : List Part) (at : ℕ) (d : List ℕ) : Type 0 where
+  pub few : Few fields
+  pub row : Row src made fields
   pub blank : Blank at d
-  pub room : at + length (content src made ats lens) ≤ length d
+  pub room : at + length (content src made fields) ≤ length d
 
--- and so has block 1, of this size, a byte before them
-pub record BlockFits (src made ats lens : List ℕ) (at size : ℕ) (d : List ℕ) : Type 0 where
-  pub few : Few lens
-  pub row : Row src made ats lens
-  pub blank : Blank at d
-  pub is : size ≡ 5 + length (content src made ats lens)
-  pub short : size ≤ 255
-  pub room : at + size ≤ length d
+-- and they are all that d, which is 00, has room for as block 1, behind its head and a byte
+pub record BlockFits (src made : List ℕ) (fields : List Part) (d : List ℕ) : Type 0 where
+  pub few : Few fields
+  pub row : Row src made fields
+  pub blank : Blank 0 d
+  pub is : length d ≡ 5 + length (content src made fields)
+  pub short : length d ≤ 255

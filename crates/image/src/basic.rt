@@ -18,9 +18,9 @@ pub fn put_front(draft: &mut [u8], item: &[u8], set: &[u8], usage: u8)
     draft[2] = set[2];
     if 16 < item.len() {
         draft[3] = 1;
-        return;
+    } else {
+        put_bytes(draft, 3, item);
     }
-    put_bytes(draft, 3, item);
 }
 
 // The owner field, at byte 21, with an ISIL that it holds: without its hyphen, a blank after a prefix of one letter.
@@ -28,12 +28,11 @@ fn put_isil(draft: &mut [u8], owner: &[u8])
     requires { IsilFits owner.now draft.old }
     ensures { Stored draft.old 21 (packed owner.now) (21 + length (packed owner.now)) draft.new }
 {
-    let mut second = owner[1];
-    let mut from: usize = 3;
-    if second == b'-' {
-        second = b' ';
-        from = 2;
-    }
+    let (second, from) = if owner[1] == b'-' {
+        (b' ', 2)
+    } else {
+        (owner[1], 3)
+    };
     draft[21] = owner[0];
     draft[22] = second;
     put_bytes(draft, 23, &owner[from..]);
@@ -48,12 +47,11 @@ pub fn put_owner(draft: &mut [u8], owner: &[u8], behind: bool)
         draft[23] = 1;
         return;
     }
-    if owner.len() == 0 {
-        return;
+    match owner {
+        [] => {}
+        [0..=3, ..] => {
+            put_bytes(draft, 23, owner);
+        }
+        _ => put_isil(draft, owner),
     }
-    if owner[0] < 4 {
-        put_bytes(draft, 23, owner);
-        return;
-    }
-    put_isil(draft, owner);
 }

@@ -2,79 +2,54 @@
 ghost use Rattle.std.specs.Prelude.{◌≡◌, List, ◌∷◌, ℕ, ◌+◌, ◌≤◌, length};
 ghost use Rattle.format.specs.Pieces.{Stored};
 ghost use Rattle.format.specs.Chain.{sealed};
-ghost use Rattle.image.specs.Laying.{On, fields_size, content, Few, FieldsFit, BlockFits};
+ghost use Rattle.image.specs.Laying.{fields_size, content, Few, FieldsFit, BlockFits};
 
+use format::Part;
 use strings::put_bytes;
 
 // How many bytes fields of these lengths have: the last that is there ends them.
-pub fn fields_size(lens: &[usize]) -> usize
-    requires { Few lens.now }
-    ensures { (result ≡ fields_size lens.now) × (result ≤ 1024) }
+pub fn fields_size(fields: &[Part]) -> usize
+    requires { Few fields.now }
+    ensures { (result ≡ fields_size fields.now) × (result ≤ 1024) }
 {
     let mut size: usize = 0;
-    let mut k = lens.len();
-    while 0 < k {
-        k -= 1;
-        let followed = size != 0;
-        if followed {
-            size += 1;
-        }
-        size += lens[k];
+    for field in fields.iter().rev() {
+        size += field.len + usize::from(size != 0);
     }
     size
 }
 
 // Lays fields down from byte `at` on. They stand in the source or in what was made.
-fn put_fields<'a>(
-    src: &'a [u8],
-    made: &'a [u8],
-    ats: &[usize],
-    lens: &[usize],
-    draft: &mut [u8],
-    at: usize,
-)
-    requires { FieldsFit src.now made.now ats.now lens.now at draft.old }
-    ensures { Stored draft.old at (content src.now made.now ats.now lens.now) (at + length (content src.now made.now ats.now lens.now)) draft.new }
+fn put_fields<'a>(src: &'a [u8], made: &'a [u8], fields: &[Part], draft: &mut [u8], at: usize)
+    requires { FieldsFit src.now made.now fields.now at draft.old }
+    ensures { Stored draft.old at (content src.now made.now fields.now) (at + length (content src.now made.now fields.now)) draft.new }
 {
     let mut to = at;
-    let mut k: usize = 0;
-    while k < lens.len() {
-        let len = lens[k];
+    for field in fields {
+        let len = field.len;
         if len != 0 {
-            put_bytes(draft, to, rows::piece(src, made, ats[k], len));
+            put_bytes(draft, to, rows::piece(src, made, *field));
         }
         to += len + 1;
-        k += 1;
     }
 }
 
-// Seals a block of `size` bytes whose content p stands behind four 00: its length, its ID and its checksum.
-fn seal_block(draft: &mut [u8], at: usize, size: usize, id: u8)
-    requires { (id ≤ 100) × (4 ≤ size) × (size ≤ 255) × (at + size ≤ length draft.old) }
-    ensures { (o p : List ℕ) → On at o (0 ∷ 0 ∷ 0 ∷ 0 ∷ p) (at + size) draft.old → On at o (sealed id p) (at + size) draft.new }
+// Seals a block whose content p stands behind four 00: its length, its ID and its checksum.
+fn seal_block(block: &mut [u8], id: u8)
+    requires { (id ≤ 100) × (4 ≤ length block.old) × (length block.old ≤ 255) }
+    ensures { (p : List ℕ) → block.old ≡ 0 ∷ 0 ∷ 0 ∷ 0 ∷ p → block.new ≡ sealed id p }
 {
-    draft[at] = size as u8;
-    draft[at + 1] = id;
-    let end = at + size;
-    let sum = strings::xor_of(&draft[at..end]);
-    draft[at + 3] = sum;
+    block[0] = block.len() as u8;
+    block[1] = id;
+    block[3] = strings::xor_of(block);
 }
 
-// Block 1, of `size` bytes, at byte `at`: the media byte, and the fields behind it.
-pub fn put_library<'a>(
-    src: &'a [u8],
-    made: &'a [u8],
-    ats: &[usize],
-    lens: &[usize],
-    draft: &mut [u8],
-    at: usize,
-    size: usize,
-    media: u8,
-)
-    requires { BlockFits src.now made.now ats.now lens.now at size draft.old }
-    ensures { Stored draft.old at (sealed 1 (media ∷ content src.now made.now ats.now lens.now)) (at + size) draft.new }
+// Makes block 1 of 00: the media byte, and the fields behind it.
+pub fn put_library<'a>(src: &'a [u8], made: &'a [u8], fields: &[Part], block: &mut [u8], media: u8)
+    requires { BlockFits src.now made.now fields.now block.old }
+    ensures { block.new ≡ sealed 1 (media ∷ content src.now made.now fields.now) }
 {
-    draft[at + 4] = media;
-    put_fields(src, made, ats, lens, draft, at + 5);
-    seal_block(draft, at, size, 1);
+    block[4] = media;
+    put_fields(src, made, fields, block, 5);
+    seal_block(block, 1);
 }

@@ -1,53 +1,18 @@
--- Good elements: what the tests of code say of them, and what their identifier is.
+-- Good elements: how long they are, and what their identifier is.
 use mathlib.Core.Path.{◌≡◌, sym, ap, ap₂, ◌∙◌}
-use Prim.Native.Nat.{ℕ, ◌+◌, ◌≤◌, ◌<◌}
+use Prim.Native.Nat.{ℕ, ◌+◌, ◌≤◌}
 use native.Mathlib.Omega.{arith}
-use mathlib.Core.Bool.{true, false, ◌&&◌}
+use mathlib.Core.Bool.{true}
 use mathlib.Core.List.{List, ◌++◌, append_assoc}
 use lib.ListN.{length, get_or, length-append}
 use borrow.Author.Tests.{eqb-true, leb-true}
 use Rattle.format.specs.Bytes.{word}
-use Rattle.format.specs.Elements.{parts_of, ordinal_of, set_info, shape, form, value}
-use Rattle.format.proofs.Strings.{not-empty, is-empty}
-use Rattle.format.proofs.Tests.{and_i, and_left, and_no, and-iff}
+use Rattle.format.specs.Elements.{parts_of, ordinal_of, set_info, shape, form}
+use Rattle.format.proofs.Tests.{and-iff}
 use Rattle.format.proofs.Values.{value-short}
-use Rattle.identifier.specs.Parts.{dotless}
 use Rattle.identifier.specs.Elements.{three, good_elements, identifier_of}
 use Rattle.joining.specs.Laying.{isil_front, set_end}
 use Rattle.joining.proofs.Pieces.{identifier-pieces, any-ordinal}
-
--- ---- an ISIL, or none
-
-pub some-value : (i : List ℕ) → 0 < length i → form 3 i ≡ true → value 3 i ≡ true
-unfolding value
-some-value i h e = rw (not-empty i (λ z. omega arith)) e
-
-pub none-value : (i : List ℕ) → length i ≤ 0 → value 3 i ≡ true
-unfolding value
-none-value i h = rw (is-empty i (omega arith))
-
--- ---- the tests one by one
-
-module _ (x i s : List ℕ) where
-  pub bad-item : form 1 x ≡ false → good_elements (three x i s) ≡ false
-  unfolding good_elements
-  bad-item e = and_left _ _ (and_left _ _ (and_left _ _ e))
-
-  pub dot-in-item : dotless x ≡ false → good_elements (three x i s) ≡ false
-  unfolding good_elements
-  dot-in-item e = and_left _ _ (and_left _ _ (and_no (form 1 x) _ e))
-
-  pub bad-isil : 0 < length i → form 3 i ≡ false → good_elements (three x i s) ≡ false
-  unfolding good_elements value
-  bad-isil h e = and_left _ _ (and_no (form 1 x && dotless x) _ (rw (not-empty i (λ z. omega arith)) e))
-
-  pub bad-set : form 4 s ≡ false → good_elements (three x i s) ≡ false
-  unfolding good_elements
-  bad-set e = and_no (form 1 x && dotless x && value 3 i) _ e
-
-  pub all-good : form 1 x ≡ true → dotless x ≡ true → value 3 i ≡ true → form 4 s ≡ true → good_elements (three x i s) ≡ true
-  unfolding good_elements
-  all-good a b c d = and_i (and_i (and_i a b) c) d
 
 -- ---- good elements
 

@@ -2,13 +2,14 @@
 use mathlib.Core.Path.{◌≡◌}
 use mathlib.Core.List.{List}
 use Prim.Native.Nat.{ℕ}
-use Rattle.format.specs.declared.NumberAnswer.{NumberAnswer}
+use Rattle.std.specs.Prelude.{Result}
+use Rattle.format.specs.declared.Reason.{Reason}
 use Rattle.words.specs.Calls.{Fills}
 use Rattle.words.proofs.Promises.{fills_one}
 use Rattle.identifier.specs.Elements.{three}
 use Rattle.identifier.specs.Calls.{joining}
 
-pub put-together-one : (item isil set text : List ℕ) (r r₂ : NumberAnswer) (text' text₂ : List ℕ)
+pub put-together-one : (item isil set text : List ℕ) (r r₂ : Result ℕ Reason) (text' text₂ : List ℕ)
     → Fills (joining (three item isil set) text) r text'
     → Fills (joining (three item isil set) text) r₂ text₂
     → (r ≡ r₂) × (text' ≡ text₂)

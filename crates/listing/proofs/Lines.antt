@@ -75,13 +75,13 @@ first s head body e es l =
 abbrev room_of : List Entry → ℕ
 room_of es = 6 * length es + 2 * length (bodies es)
 
--- The lines `done` of the entries before `head` are stored in o from `at` on, which is then d; the place behind them is `end`. The heads
--- end at `bodiesAt`. Lines follow for the entries `left`, and there is room for them.
-pub record Printing (o : List ℕ) (at : ℕ) (s : List ℕ) (bodiesAt head body : ℕ) (d : List ℕ) (end : ℕ) : Type 0 where
+-- The lines `done` of the first i entries are stored in o from `at` on, which is then d; the place behind them is `end`. Lines follow for
+-- the entries `left`, the rest of n, and there is room for them.
+pub record Printing (o : List ℕ) (at : ℕ) (s : List ℕ) (n i body : ℕ) (d : List ℕ) (end : ℕ) : Type 0 where
   pub left : List Entry
   pub done : List ℕ
-  pub stands : Left s head body left
-  pub heads-left : head + 4 * length left ≡ bodiesAt
+  pub stands : Left s (body_at i) body left
+  pub still : i + length left ≡ n
   pub text : done ++ lines_of left ≡ lines_of (entries_in s)
   pub start : at ≤ length o
   pub kept : length d ≡ length o
@@ -90,7 +90,7 @@ pub record Printing (o : List ℕ) (at : ℕ) (s : List ℕ) (bodiesAt head body
 
 -- before the first turn
 pub printing-starts : (o : List ℕ) (at : ℕ) (s : List ℕ) (n : ℕ) → sheet_of (entries_in s) ≡ s → n ≡ count_in s → at + 2 * length s ≤ length o
-    → Printing o at s (2 + 4 * n) 2 (2 + 4 * n) o at
+    → Printing o at s n 0 (body_at n) o at
 printing-starts o at s n e c h =
     let es : List Entry = entries_in s in
     let k : length es ≡ n = entry-count s ∙ sym c in
@@ -98,7 +98,7 @@ printing-starts o at s n e c h =
       left = es;
       done = [];
       stands = rw (k, e) at (all_left es);
-      heads-left = omega arith;
+      still = omega (arith, k);
       text = refl;
       start = omega arith;
       kept = refl;
@@ -124,37 +124,37 @@ bodies-first : (e : Entry) (es : List Entry) → length (bodies (e ∷ es)) ≡ 
 unfolding bodies
 bodies-first e es = length-append e.bytes (bodies es)
 
-module _ {o : List ℕ} {at : ℕ} {s : List ℕ} {bodiesAt head body : ℕ} {d : List ℕ} {end : ℕ} where
-  pub can-read : Printing o at s bodiesAt head body d end → head < bodiesAt → Within s head body end d
-  can-read p h = go p.left p.stands p.heads-left p.room
+module _ {o : List ℕ} {at : ℕ} {s : List ℕ} {n i body : ℕ} {d : List ℕ} {end : ℕ} (p : Printing o at s n i body d end) where
+  pub can-read : i < n → Within s (body_at i) body end d
+  can-read h = go p.left p.stands p.still p.room
     where
-      go : (left : List Entry) → Left s head body left → head + 4 * length left ≡ bodiesAt → end + room_of left ≤ length o → Within s head body end d
-      go [] l n r = absurd (omega arith)
-      go (e ∷ es) l n r =
-          let f = first s head body e es l in
+      go : (left : List Entry) → Left s (body_at i) body left → i + length left ≡ n → end + room_of left ≤ length o → Within s (body_at i) body end d
+      go [] l k r = absurd (omega arith)
+      go (e ∷ es) l k r =
+          let f = first s (body_at i) body e es l in
           record { inside = f.inside; whole = omega (arith, f.size, f.whole); room = omega (arith, p.kept, f.size, bodies-first e es) }
 
   -- after a turn, which stored the line of the next entry
-  pub printing-on : (r : ℕ) (d' : List ℕ) → Printing o at s bodiesAt head body d end → head < bodiesAt → get_or s head 0 < 256 → length d' ≡ length d
-      → Stored d end (line_of (get_or s head 0) (take (body + get_or s (head + 3) 0 - body) (drop body s))) r d'
-      → Printing o at s bodiesAt (head + 4) (body + get_or s (head + 3) 0) d' r
-  printing-on r d' p h b same st = go p.left p.stands p.heads-left p.text p.room
+  pub printing-on : (r : ℕ) (d' : List ℕ) (size : ℕ) → i < n → size ≡ get_or s (body_at i + 3) 0 → get_or s (body_at i) 0 < 256 → length d' ≡ length d
+      → Stored d end (line_of (get_or s (body_at i) 0) (take (body + size - body) (drop body s))) r d'
+      → Printing o at s n (i + 1) (body + size) d' r
+  printing-on r d' size h z b same st = go p.left p.stands p.still p.text p.room
     where
-      go : (left : List Entry) → Left s head body left → head + 4 * length left ≡ bodiesAt → p.done ++ lines_of left ≡ lines_of (entries_in s)
-          → end + room_of left ≤ length o → Printing o at s bodiesAt (head + 4) (body + get_or s (head + 3) 0) d' r
-      go [] l n t m = absurd (omega arith)
-      go (e ∷ es) l n t m =
-          let f = first s head body e es l in
-          let size : body + get_or s (head + 3) 0 - body ≡ length e.bytes = omega (arith, f.size) in
+      go : (left : List Entry) → Left s (body_at i) body left → i + length left ≡ n → p.done ++ lines_of left ≡ lines_of (entries_in s)
+          → end + room_of left ≤ length o → Printing o at s n (i + 1) (body + size) d' r
+      go [] l k t m = absurd (omega arith)
+      go (e ∷ es) l k t m =
+          let f = first s (body_at i) body e es l in
+          let long : size ≡ length e.bytes = z ∙ f.size in
+          let taken : body + size - body ≡ length e.bytes = omega (arith, long) in
+          let four : body_at (i + 1) ≡ body_at i + 4 = omega arith in
           let line : List ℕ = line_of e.number e.bytes in
-          let printed : Stored d end line r d' =
-          stored-as d d' _ _ end r
-          (ap₂ line_of f.number (ap (λ (i : ℕ). take i (drop body s)) size ∙ f.bytes)) st in
+          let printed : Stored d end line r d' = stored-as d d' _ _ end r (ap₂ line_of f.number (ap (λ (j : ℕ). take j (drop body s)) taken ∙ f.bytes)) st in
           record {
             left = es;
             done = p.done ++ line;
-            stands = rw f.size f.others;
-            heads-left = omega arith;
+            stands = rw (four, long) f.others;
+            still = omega arith;
             text = append_assoc p.done line (lines_of es) ∙ ap (λ (x : List ℕ). p.done ++ x) (sym (lines-first e es)) ∙ t;
             start = p.start;
             kept = same ∙ p.kept;
@@ -163,9 +163,9 @@ module _ {o : List ℕ} {at : ℕ} {s : List ℕ} {bodiesAt head body : ℕ} {d 
           }
 
   -- after the last turn every line is stored
-  pub printing-ends : Printing o at s bodiesAt head body d end → bodiesAt ≤ head → Stored o at (lines_of (entries_in s)) end d
-  printing-ends p h = go p.left p.heads-left p.text
+  pub printing-ends : n ≤ i → Stored o at (lines_of (entries_in s)) end d
+  printing-ends h = go p.left p.still p.text
     where
-      go : (left : List Entry) → head + 4 * length left ≡ bodiesAt → p.done ++ lines_of left ≡ lines_of (entries_in s) → Stored o at (lines_of (entries_in s)) end d
-      go [] n t = stored-as o d _ _ at end (sym (append-nil p.done) ∙ ap (λ (x : List ℕ). p.done ++ x) (sym no_lines) ∙ t) p.laid
-      go (e ∷ es) n t = absurd (omega arith)
+      go : (left : List Entry) → i + length left ≡ n → p.done ++ lines_of left ≡ lines_of (entries_in s) → Stored o at (lines_of (entries_in s)) end d
+      go [] k t = stored-as o d _ _ at end (sym (append-nil p.done) ∙ ap (λ (x : List ℕ). p.done ++ x) (sym no_lines) ∙ t) p.laid
+      go (e ∷ es) k t = absurd (omega arith)

@@ -1,4 +1,5 @@
 -- What looking leaves; what is known of a tag that has passed its steps, and how a call that begins with them goes on.
+use Rattle.std.specs.Prelude.{Ok, Err}
 use mathlib.Core.Path.{◌≡◌, sym, ap, ◌∙◌}
 use Prim.Native.Nat.{ℕ, ◌≤◌}
 use mathlib.Core.Bool.{true, false}
@@ -10,6 +11,7 @@ use Rattle.format.specs.Pages.{page_size, good_size}
 use Rattle.format.specs.Elements.{numbers, clash, values_at, sound}
 use Rattle.format.specs.Reading.{content_in, tag_steps, Readable}
 use Rattle.format.specs.Numbers.{refusal_given}
+use Rattle.format.specs.declared.Part.{Part}
 use Rattle.format.specs.declared.Refusal as code
 use Rattle.format.proofs.Answers.{next-inv, in-order-append, then-no, works, worked, afterwards-got, refused-with}
 use Rattle.format.proofs.Readable.{on-readable}
@@ -17,32 +19,26 @@ use Rattle.format.proofs.Layouts.{size-most}
 use Rattle.format.proofs.Slots.{sound-parts}
 use Rattle.format.proofs.Sound.{read-sound}
 use Rattle.look.specs.declared.View.{View}
-use Rattle.look.specs.declared.Look.{Look}
-use Rattle.look.specs.declared.Look.TheVariants as look
-use Rattle.look.specs.View.{view_in, look_steps, judged, look_given, looking, Looked, Sighted}
+use Rattle.look.specs.View.{view_in, look_steps, judged, looking, Looked, Sighted}
 
 -- ---- what looking left
 
-module _ (t ats lens made : List ℕ) (r : Look) (ats' lens' made' : List ℕ) (h : Looked t ats lens made r ats' lens' made') where
-  answer : (m : Look) → r ≡ m → looking t ≡ look_given m
-  answer m e = sym h.answered ∙ ap look_given e
-
-  pub looked-sighted : (v : View) → r ≡ look.Seen v → Sighted t made ats' lens' made' v
+module _ {t : List ℕ} {row row' : List Part} {made made' : List ℕ} where
+  pub looked-sighted : {v : View} → Looked t row made (Ok v) row' made' → Sighted t made row' made' v
   unfolding looking
-  looked-sighted v e =
-      let a : looking t ≡ got v = answer (look.Seen v) e in
+  looked-sighted {v} h =
+      let a : looking t ≡ got v = sym h.answered in
       let w = worked (look_steps t) (view_in t) v a in
       record {
         seen = works (look_steps t) tt w.0;
         view-is = sym w.1;
-        ats-is = h.ats-left ∙ afterwards-got (looking t) v _ _ a;
-        lens-is = h.lens-left ∙ afterwards-got (looking t) v _ _ a;
+        row-is = h.row-left ∙ afterwards-got (looking t) v _ _ a;
         made-is = h.made-left ∙ afterwards-got (looking t) v _ _ a;
       }
 
-  pub looked-refused : (x : code.Refusal) → r ≡ look.Refused x → judged t ≡ refused (refusal_given x)
+  pub looked-refused : {x : code.Refusal} → Looked t row made (Err x) row' made' → judged t ≡ refused (refusal_given x)
   unfolding looking
-  looked-refused x e = refused-with (look_steps t) (view_in t) tt (refusal_given x) (answer (look.Refused x) e)
+  looked-refused {x} h = refused-with (look_steps t) (view_in t) tt (refusal_given x) (sym h.answered)
 
 -- ---- the steps of looking
 

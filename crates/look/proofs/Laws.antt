@@ -20,14 +20,15 @@ use Rattle.format.specs.Calls.{own_layout}
 use Rattle.format.proofs.Tests.{never, and-iff, or-inv, not_t}
 use Rattle.format.proofs.Strings.{nil-of}
 use Rattle.rows.specs.Rows.{slots_at, Row}
-use Rattle.chain.specs.Survey.{Found, found_on}
+use Rattle.chain.specs.declared.Chain.{Chain}
+use Rattle.chain.specs.Survey.{found_on}
 use Rattle.chain.proofs.Laws.{surveyed}
 use Rattle.chain.proofs.Piece.{OnePiece, in-one-piece, own-piece}
 use Rattle.look.specs.Row.{piece_by}
-use Rattle.look.specs.Looking.{item_on, owner_parts_on, library_parts_on, FieldsOf}
-use Rattle.look.specs.View.{ats_in, lens_in, made_in, view_in, judged}
+use Rattle.look.specs.Looking.{fields_on, FieldsOf}
+use Rattle.look.specs.View.{row_in, made_in, view_in, judged}
 use Rattle.look.proofs.Standing.{holds_row, holds-slots}
-use Rattle.look.proofs.Steps.{size-passed}
+use Rattle.look.proofs.Steps.{size_passed}
 use Rattle.look.proofs.Judged.{seen_size, seen-readable}
 use Rattle.look.proofs.Elements.{made-length, elements_lie}
 
@@ -40,7 +41,7 @@ record Pieced (t : List ℕ) (size : ℕ) (p : Part) : Type 0 where
   own : own_layout t ≡ true → p.len ≡ size
 
 module _ (t : List ℕ) (w : walked t ≡ got (blocks_in t)) where
-  abbrev f : Found
+  abbrev f : Chain
   f = found_on t
 
   -- no bytes, where there are no blocks or the tag is not the writer's own layout
@@ -51,8 +52,7 @@ module _ (t : List ℕ) (w : walked t ≡ got (blocks_in t)) where
     own = own;
   }
 
-  pieced : good_size page_size (length t) ≡ true → Pieced t f.size (piece_by f.library f.size f.end)
-  unfolding piece_by
+  pieced : good_size page_size (length t) ≡ true → Pieced t f.size (piece_by f)
   pieced g = go (not (eqb f.size 0) && (eqb f.library.len 0 || eqb f.library.at 34) && eqb (34 + f.library.len + f.size) f.end) refl
     where
       -- block 1 is the first block, or there is none
@@ -74,8 +74,8 @@ module _ (t : List ℕ) (w : walked t ≡ got (blocks_in t)) where
 -- ---- what a readable tag holds, as looking finds it; `made` is the buffer that was lent
 
 pub record Seen (t made : List ℕ) : Type 0 where
-  pub row : Row t (filled (made_in t) made) (ats_in t) (lens_in t)
-  pub slots : slots_at (t ++ filled (made_in t) made) (ats_in t) (lens_in t) ≡ (content_in t).slots
+  pub row : Row t (filled (made_in t) made) (row_in t)
+  pub slots : slots_at (t ++ filled (made_in t) made) (row_in t) ≡ (content_in t).slots
   pub made-length : length (filled (made_in t) made) ≡ 19
   pub count : (view_in t).count ≡ length (content_in t).carried
   pub size : (view_in t).size ≡ length (joined (content_in t).carried)
@@ -88,18 +88,18 @@ module _ (t made : List ℕ) (y : bytes t ≡ true) (long : length made ≡ 19) 
   block : Held t (found_on t).library (block_of 1 (blocks_in t))
   block = (surveyed t r.blocks).library
 
-  fields : FieldsOf t (item_on t) (owner_parts_on t) (library_parts_on t)
-  fields = record { sized = size-passed t g; good = r.fields; item = refl; owner = refl; library = refl }
+  fields : FieldsOf t (fields_on t)
+  fields = record { good = r.fields; is = refl }
 
   seen : Seen t made
   unfolding view_in content_in
   seen =
-      let h = elements_lie t _ block _ _ _ fields made long r.agreed y in
+      let h = elements_lie t _ block _ fields (size_passed t g) made long r.agreed y in
       let p = pieced t r.blocks g in
       record {
         row = holds_row t (filled (made_in t) made) _ _ h;
         slots = holds-slots t (filled (made_in t) made) _ _ h;
-        made-length = made-length t _ block _ _ _ fields made long r.agreed;
+        made-length = made-length t _ block _ fields (size_passed t g) made long r.agreed;
         count = refl;
         size = refl;
         blocks-inside = p.inside;

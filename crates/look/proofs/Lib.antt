@@ -1,6 +1,5 @@
 pub mod Steps
 pub mod Standing
-pub mod Making
 pub mod Elements
 pub mod Judged
 pub mod Laws

@@ -1,28 +1,17 @@
 -- Each public function of `look` has one answer, and leaves one content of each buffer.
-use mathlib.Core.Path.{◌≡◌, sym, ap, ◌∙◌}
+use Rattle.std.specs.Prelude.{Result}
+use mathlib.Core.Path.{◌≡◌, sym, ◌∙◌}
 use Prim.Native.Nat.{ℕ}
 use mathlib.Core.List.{List}
-use Rattle.format.specs.Numbers.{refusal_given, refusal_of}
+use Rattle.format.specs.declared.Part.{Part}
 use Rattle.format.specs.declared.Refusal.{Refusal}
-use Rattle.format.proofs.Tests.{never}
-use Rattle.format.proofs.Answers.{got-inj, refused-inj}
-use Rattle.format.proofs.Given.{refusal-same}
-use Rattle.look.specs.View.{look_given, Looked}
-use Rattle.look.specs.declared.Look.{Look}
-use Rattle.look.specs.declared.Look.TheVariants.{Seen, Refused}
+use Rattle.format.proofs.Given.{told-same}
+use Rattle.look.specs.View.{Looked}
+use Rattle.look.specs.declared.View.{View}
 
-given-one : (r q : Look) → look_given r ≡ look_given q → r ≡ q
-given-one (Seen n) (Seen m) e = ap Seen (got-inj e)
-given-one (Seen n) (Refused m) e = never (cc)
-given-one (Refused n) (Seen m) e = never (cc)
-given-one (Refused x) (Refused y) e = ap Refused (refusal-same x y (refused-inj e))
-
-pub look-refusal-one : (l : Look) (r r₂ : Refusal) → refusal_given r ≡ refusal_of (look_given l) → refusal_given r₂ ≡ refusal_of (look_given l) → r ≡ r₂
-look-refusal-one l r r₂ a b = refusal-same r r₂ (a ∙ sym b)
-
-pub look-at-one : (tag ats lens made : List ℕ) (r r₂ : Look) (ats' lens' made' ats₂ lens₂ made₂ : List ℕ)
-    → Looked tag ats lens made r ats' lens' made'
-    → Looked tag ats lens made r₂ ats₂ lens₂ made₂
-    → (r ≡ r₂) × (ats' ≡ ats₂) × (lens' ≡ lens₂) × (made' ≡ made₂)
-look-at-one tag ats lens made r r₂ ats' lens' made' ats₂ lens₂ made₂ a b =
-    (given-one r r₂ (a.answered ∙ sym b.answered), a.ats-left ∙ sym b.ats-left, a.lens-left ∙ sym b.lens-left, a.made-left ∙ sym b.made-left)
+pub look-at-one : (tag : List ℕ) (row : List Part) (made : List ℕ) (r r₂ : Result View Refusal) (row' : List Part) (made' : List ℕ) (row₂ : List Part) (made₂ : List ℕ)
+    → Looked tag row made r row' made'
+    → Looked tag row made r₂ row₂ made₂
+    → (r ≡ r₂) × (row' ≡ row₂) × (made' ≡ made₂)
+look-at-one tag row made r r₂ row' made' row₂ made₂ a b =
+    (told-same r r₂ (a.answered ∙ sym b.answered), a.row-left ∙ sym b.row-left, a.made-left ∙ sym b.made-left)

@@ -5,7 +5,7 @@ use Prim.Native.Nat.{ℕ, zero, suc, ◌+◌, ◌-◌, ◌≤◌}
 use native.Mathlib.Numerals.{unary_clauses}
 use native.Mathlib.Omega.{arith}
 use mathlib.Core.Bool.{Bool, true, false}
-use mathlib.Core.List.{List, [], ◌∷◌, ◌++◌, map}
+use mathlib.Core.List.{List, [], ◌∷◌, ◌++◌}
 use lib.ListN.{length, take, drop, length-take, length-drop}
 use lib.Seq.{take-nil, take-take, drop-drop, take-append-le, drop-append-le, drop-append-add}
 use lib.Dec.{leb}
@@ -40,7 +40,7 @@ held-length {t} {s} {p} h = omega (arith, ap length h.is, h.inside, length-take 
 
 -- the part p of the tag t and of what was made behind it, m, is s
 pub record Lies (t m : List ℕ) (p : Part) (s : List ℕ) : Type 0 where
-  pub stands : Stands t m p.at p.len
+  pub stands : Stands t m p
   pub is : part p.at p.len (t ++ m) ≡ s
 
 pub lies-as : {t m : List ℕ} {p : Part} {s r : List ℕ} → Lies t m p s → s ≡ r → Lies t m p r
@@ -60,7 +60,7 @@ module _ (t m : List ℕ) where
   pub no_bytes : (at : ℕ) → at ≤ length t + length m → Lies t m (from at 0) []
   no_bytes at h = record { stands = go (leb at (length t)) refl; is = refl }
     where
-      go : (x : Bool) → leb at (length t) ≡ x → Stands t m at 0
+      go : (x : Bool) → leb at (length t) ≡ x → Stands t m (from at 0)
       go true e = inl (omega (arith, leb-true at (length t) e))
       go false e = inr (omega (arith, leb-false at (length t) e), omega (arith, h))
 
@@ -79,13 +79,13 @@ pub data Holds (t m : List ℕ) : List Part → List (List ℕ) → Type 0 where
   more : {p : Part} {s : List ℕ} {ps : List Part} {ss : List (List ℕ)} → Lies t m p s → Holds t m ps ss → Holds t m (p ∷ ps) (s ∷ ss)
 
 module _ (t m : List ℕ) where
-  pub holds_row : (ps : List Part) (ss : List (List ℕ)) → Holds t m ps ss → Row t m (map (λ (p : Part). p.at) ps) (map (λ (p : Part). p.len) ps)
+  pub holds_row : (ps : List Part) (ss : List (List ℕ)) → Holds t m ps ss → Row t m ps
   holds_row [] [] done = none
   holds_row (p ∷ ps) (s ∷ ss) (more l h) = next l.stands (holds_row ps ss h)
   holds_row [] (s ∷ ss) w = elim w [ ]
   holds_row (p ∷ ps) [] w = elim w [ ]
 
-  pub holds-slots : (ps : List Part) (ss : List (List ℕ)) → Holds t m ps ss → slots_at (t ++ m) (map (λ (p : Part). p.at) ps) (map (λ (p : Part). p.len) ps) ≡ ss
+  pub holds-slots : (ps : List Part) (ss : List (List ℕ)) → Holds t m ps ss → slots_at (t ++ m) ps ≡ ss
   unfolding slots_at
   holds-slots [] [] done = refl
   holds-slots (p ∷ ps) (s ∷ ss) (more l h) = ap₂ (λ (x : List ℕ) (y : List (List ℕ)). x ∷ y) l.is (holds-slots ps ss h)

@@ -1,24 +1,29 @@
 -- Where a tag that passes every step has its elements: document 01, "The first 34 bytes" and "The chain of blocks". Which bytes are an
 -- element is said by `format`'s rules; here stand the places. What a sheet has in another form than the tag is made, and stands behind
 -- the tag: set information, usage, and an ISIL with its hyphen.
-use Rattle.std.specs.Prelude.{◌≡◌, ℕ, ◌+◌, ◌*◌, ◌≤◌, not, ◌&&◌, ◌||◌, List, [], ◌∷◌, ◌++◌, map, length, get_or, take, drop, set, eqb, if◌then◌else◌}
+use Rattle.std.specs.Prelude.{◌≡◌, ℕ, ◌+◌, ◌*◌, ◌≤◌, not, ◌&&◌, ◌||◌, List, [], ◌∷◌, ◌++◌, length, get_or, take, drop, eqb, if◌then◌else◌}
 use Rattle.format.specs.declared.Part.{Part}
 use Rattle.format.specs.Bytes.{part}
 use Rattle.format.specs.Pieces.{from, nowhere}
 use Rattle.format.specs.Fields.{hyphen, alternate}
-use Rattle.format.specs.Elements.{place}
 use Rattle.format.specs.Reading.{main_usage}
-use Rattle.fields.specs.declared.ItemParts.{ItemParts}
-use Rattle.fields.specs.declared.OwnerParts.{OwnerParts}
+use Rattle.chain.specs.declared.Chain.{Chain}
+use Rattle.fields.specs.declared.Item.{Item}
+use Rattle.fields.specs.declared.Item.TheVariants as item
+use Rattle.fields.specs.declared.Owner.{Owner}
+use Rattle.fields.specs.declared.Owner.TheVariants as owner
 use Rattle.fields.specs.declared.LibraryParts.{LibraryParts}
+use Rattle.look.specs.declared.judge.Fields.{Fields}
 
 -- ---- items: block 1, which begins at `block`, has its item field from its byte 5 on; that is element 1 under the marker, else 22
 
-unfoldable pub item_by : ℕ → ItemParts → LibraryParts → Part
-item_by block i l = if i.marked then from (block + 5) l.item else from 3 i.len
+abbrev pub item_by : ℕ → Item → LibraryParts → Part
+item_by block item.Marker l = from (block + 5) l.item
+item_by block (item.Text len) l = from 3 len
 
-unfoldable pub alternative_item_by : ℕ → ItemParts → LibraryParts → Part
-alternative_item_by block i l = if i.marked then nowhere else from (block + 5) l.item
+abbrev pub alternative_item_by : ℕ → Item → LibraryParts → Part
+alternative_item_by block item.Marker l = nowhere
+alternative_item_by block (item.Text len) l = from (block + 5) l.item
 
 -- ---- owners: in block 1, from `at` on, if that has one, where its first byte tells its kind; else from byte 23 on, an ISIL with its prefix
 -- at byte 21
@@ -28,19 +33,31 @@ unfoldable pub isil_made : List ℕ → ℕ → ℕ → List ℕ
 isil_made t prefix unit = part 21 prefix t ++ (hyphen ∷ part 23 unit t)
 
 -- it is made where the owner is one
-unfoldable pub isil_bytes : List ℕ → OwnerParts → LibraryParts → List ℕ
-isil_bytes t o l = if eqb l.owner 0 && not (eqb o.prefix 0) then isil_made t o.prefix o.isil else []
+abbrev pub isil_said : List ℕ → Owner → List ℕ
+isil_said t (owner.Isil prefix unit) = isil_made t prefix unit
+isil_said t o = []
+
+abbrev pub isil_bytes : List ℕ → Owner → LibraryParts → List ℕ
+isil_bytes t o l = if eqb l.owner 0 then isil_said t o else []
 
 -- it stands behind set information and usage
-unfoldable pub isil_by : List ℕ → ℕ → OwnerParts → LibraryParts → Part
-isil_by t at o l =
-    if eqb l.owner 0
-    then (if eqb o.prefix 0 then nowhere else from (length t + 5) (o.prefix + 1 + o.isil))
-    else (if alternate (get_or t at 0 ∷ []) then nowhere else from at l.owner)
+abbrev pub isil_behind : List ℕ → Owner → Part
+isil_behind t (owner.Isil prefix unit) = from (length t + 5) (prefix + 1 + unit)
+isil_behind t o = nowhere
 
-unfoldable pub alternative_owner_by : List ℕ → ℕ → OwnerParts → LibraryParts → Part
+abbrev pub isil_by : List ℕ → ℕ → Owner → LibraryParts → Part
+isil_by t at o l =
+    if eqb l.owner 0 then isil_behind t o else
+    if alternate (get_or t at 0 ∷ []) then nowhere else from at l.owner
+
+-- the length of an alternative owner
+abbrev pub alternative_length : Owner → ℕ
+alternative_length (owner.Alternative len) = len
+alternative_length o = 0
+
+abbrev pub alternative_owner_by : List ℕ → ℕ → Owner → LibraryParts → Part
 alternative_owner_by t at o l =
-    if eqb l.owner 0 then from 23 o.alternative else
+    if eqb l.owner 0 then from 23 (alternative_length o) else
     if alternate (get_or t at 0 ∷ []) then from at l.owner else nowhere
 
 -- ---- media and usage
@@ -50,42 +67,39 @@ abbrev pub media_length : ℕ → ℕ
 media_length media = if eqb media 0 then 0 else 1
 
 -- block 1's usage byte, or else the main qualifier of byte 0
-unfoldable pub usage_by : List ℕ → LibraryParts → ℕ
+abbrev pub usage_by : List ℕ → LibraryParts → ℕ
 usage_by t l = if eqb l.usage 0 then main_usage t * 16 else l.usage
 
 -- ---- all of them, in the order of the table
 
-unfoldable pub row_by : List ℕ → ℕ → ItemParts → OwnerParts → LibraryParts → List Part
-row_by t block i o l =
-    let at : ℕ = block + 6 + l.item in
-    item_by block i l ∷
-    isil_by t at o l ∷
+unfoldable pub row_by : List ℕ → ℕ → Fields → List Part
+row_by t block f =
+    let at : ℕ = block + 6 + f.library.item in
+    item_by block f.item f.library ∷
+    isil_by t at f.owner f.library ∷
     from (length t) 4 ∷
     from (length t + 4) 1 ∷
-    from (block + 4) (media_length l.media) ∷
-    alternative_item_by block i l ∷
-    alternative_owner_by t at o l ∷
+    from (block + 4) (media_length f.library.media) ∷
+    alternative_item_by block f.item f.library ∷
+    alternative_owner_by t at f.owner f.library ∷
     []
-
-abbrev pub ats_by : List ℕ → ℕ → ItemParts → OwnerParts → LibraryParts → List ℕ
-ats_by t block i o l = map (λ (p : Part). p.at) (row_by t block i o l)
-
-abbrev pub lens_by : List ℕ → ℕ → ItemParts → OwnerParts → LibraryParts → List ℕ
-lens_by t block i o l = map (λ (p : Part). p.len) (row_by t block i o l)
 
 -- what is made: set information and usage, and behind them the ISIL
 abbrev pub front_made : List ℕ → LibraryParts → List ℕ
 front_made t l = get_or t 1 0 ∷ 0 ∷ get_or t 2 0 ∷ 0 ∷ usage_by t l ∷ []
 
-unfoldable pub made_by : List ℕ → OwnerParts → LibraryParts → List ℕ
+unfoldable pub made_by : List ℕ → Owner → LibraryParts → List ℕ
 made_by t o l = front_made t l ++ isil_bytes t o l
 
 -- ---- the carried blocks
 
 -- in one piece, by block 1, their size and the chain's end: nowhere, unless there are some, block 1 is the first block or there is none, and
 -- the chain has no filler
-unfoldable pub piece_by : Part → ℕ → ℕ → Part
-piece_by l size end = if not (eqb size 0) && (eqb l.len 0 || eqb l.at 34) && eqb (34 + l.len + size) end then from (34 + l.len) size else nowhere
+abbrev pub piece_by : Chain → Part
+piece_by c =
+    if not (eqb c.size 0) && (eqb c.library.len 0 || eqb c.library.at 34) && eqb (34 + c.library.len + c.size) c.end
+    then from (34 + c.library.len) c.size
+    else nowhere
 
 -- ---- what the functions that lay down a row rely on
 
@@ -100,21 +114,19 @@ pub record IsilLies (t : List ℕ) (prefix unit : ℕ) : Type 0 where
   pub fits : unit ≤ 11
   pub inside : 23 + unit ≤ length t
 
+-- an ISIL of the owner field lies so
+pub record FieldLies (t : List ℕ) (o : Owner) : Type 0 where
+  pub isil : (prefix unit : ℕ) → o ≡ owner.Isil prefix unit → IsilLies t prefix unit
+
 -- the owner lies inside the tag
-pub record OwnerLies (t : List ℕ) (at : ℕ) (o : OwnerParts) (l : LibraryParts) : Type 0 where
+pub record OwnerLies (t : List ℕ) (at : ℕ) (o : Owner) (l : LibraryParts) : Type 0 where
   pub size : length t ≤ 2048
-  pub field : (o.prefix ≡ 0 → ⊥) → IsilLies t o.prefix o.isil
+  pub field : FieldLies t o
   pub block : (l.owner ≡ 0 → ⊥) → at + l.owner ≤ length t
 
 -- and so does block 1
-pub record RowLies (t : List ℕ) (block : ℕ) (o : OwnerParts) (l : LibraryParts) : Type 0 where
+pub record RowLies (t : List ℕ) (block : ℕ) (f : Fields) : Type 0 where
   pub least : 32 ≤ length t
   pub begins : block ≤ length t
-  pub item : l.item ≤ length t
-  pub owner : OwnerLies t (block + 6 + l.item) o l
-
--- what laying down the owner leaves
-pub record OwnerHeld (t : List ℕ) (at : ℕ) (o : OwnerParts) (l : LibraryParts) (ats lens made ats' lens' made' : List ℕ) : Type 0 where
-  pub ats-left : ats' ≡ set (set ats (place 23) (alternative_owner_by t at o l).at) (place 3) (isil_by t at o l).at
-  pub lens-left : lens' ≡ set (set lens (place 23) (alternative_owner_by t at o l).len) (place 3) (isil_by t at o l).len
-  pub made-left : made' ≡ stead 5 (isil_bytes t o l) made
+  pub item : f.library.item ≤ length t
+  pub owner : OwnerLies t (block + 6 + f.library.item) f.owner f.library

@@ -1,18 +1,17 @@
 -- Laws of counts, and of the locked pages that would get other bytes, over the page size p.
 use Rattle.std.specs.Prelude.{if◌then◌else◌}
 use mathlib.Core.Path.{◌≡◌, refl, sym, ap}
-use Prim.Native.Nat.{ℕ, zero, suc, ◌+◌, ◌/◌, ◌≤◌, ◌<◌}
-use native.Mathlib.Nat.{not-suc-le-zero}
+use Prim.Native.Nat.{ℕ, zero, suc, ◌+◌, ◌/◌, ◌≤◌, ◌<◌, min}
 use native.Mathlib.Numerals.{add-one}
 use native.Mathlib.Omega.{arith}
-use mathlib.Core.Bool.{Bool, true, false, not, ◌&&◌}
+use mathlib.Core.Bool.{Bool, true, false, not}
 use mathlib.Core.List.{List, [], ◌∷◌}
 use lib.Dec.{eqb, ltb}
 use lib.ListN.{length, get_or-eq_default}
 use borrow.Author.Tests.{eq-eqb, ne_eqb, ltb-true, ltb-false}
 use Rattle.format.specs.Bytes.{all}
 use Rattle.format.specs.Pages.{locked, differs, locked_differs, count, locked_changed}
-use Rattle.format.proofs.Tests.{never, and_l, and_r, and_i, not_t, not_f}
+use Rattle.format.proofs.Tests.{never, and_l, and_r, and_i, and_left, not_t, not_f}
 use Rattle.format.proofs.Paging.{count-zero, zero-count}
 use Rattle.pages.specs.Storing.{is_open}
 
@@ -41,7 +40,7 @@ counted-one f n i h e = ne_eqb (count f n) 0 (λ z. never (cc (count-zero f n z 
 -- ---- the pages that are locked
 
 -- pages that the lock map does not reach are open
-pub open-beyond : (locks : List ℕ) (i : ℕ) → length locks ≤ i → locked locks i ≡ false
+open-beyond : (locks : List ℕ) (i : ℕ) → length locks ≤ i → locked locks i ≡ false
 open-beyond locks i h = rw (get_or-eq_default locks 0 h)
 
 open_at : (locks : List ℕ) (i : ℕ) → all is_open locks ≡ true → not (locked locks i) ≡ true
@@ -55,16 +54,17 @@ module _ (p : ℕ) (locks t image : List ℕ) where
   unfolding locked_changed locked_differs
   one-locked i h l d = sym (ap not (counted-one (locked_differs p locks t image) (length t / p) i h (and_i l d)))
 
-  -- none up to page i, and none locked from there
-  pub none-locked : (i : ℕ) → ((j : ℕ) → j < i → locked_differs p locks t image j ≡ false) → ((j : ℕ) → i ≤ j → j < length t / p → locked locks j ≡ false)
+  -- none of those that both have, as far as page i
+  pub none_locked : (i : ℕ) → min (length t / p) (length locks) ≤ i → ((j : ℕ) → j < i → locked_differs p locks t image j ≡ false)
       → false ≡ not (eqb (locked_changed p locks t image) 0)
   unfolding locked_changed locked_differs
-  none-locked i below beyond = sym (ap not (eq-eqb _ 0 (zero-count (locked_differs p locks t image) (length t / p) (λ j h. each j (ltb j i) refl h))))
+  none_locked i all below = sym (ap not (eq-eqb _ 0 (zero-count (locked_differs p locks t image) (length t / p) (λ j h. each j (ltb j i) refl h))))
     where
       each : (j : ℕ) (b : Bool) → ltb j i ≡ b → j < length t / p → locked_differs p locks t image j ≡ false
       each j true e h = below j (ltb-true j i e)
-      each j false e h = ap (λ (l : Bool). l && differs p t image j) (beyond j (ltb-false j i e) h)
+      each j false e h = and_left _ _ (open-beyond locks j (omega (arith, ltb-false j i e)))
 
   -- where every lock byte is open, no locked page gets other bytes
-  pub all-open : all is_open locks ≡ true → eqb (locked_changed p locks t image) 0 ≡ true
-  all-open e = not_f _ (sym (none-locked 0 (λ j h. absurd (not-suc-le-zero h)) (λ j h k. not_t _ (open_at locks j e))))
+  pub all_open : all is_open locks ≡ true → eqb (locked_changed p locks t image) 0 ≡ true
+  unfolding locked_differs
+  all_open e = not_f _ (sym (none_locked (min (length t / p) (length locks)) (omega arith) (λ j h. and_left _ _ (not_t _ (open_at locks j e)))))

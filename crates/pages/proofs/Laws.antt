@@ -10,7 +10,7 @@ use mathlib.Core.List.{List, ◌++◌, append-nil}
 use lib.Dec.{eqb}
 use lib.ListN.{length, drop_of_length-le}
 use lib.Seq.{take_all}
-use borrow.Author.Tests.{eq-eqb, eqb-true, le-ltb}
+use borrow.Author.Tests.{eq-eqb, eqb-true}
 use Rattle.format.specs.Answers.{need}
 use Rattle.format.specs.Bytes.{between}
 use Rattle.format.specs.Pages.{good_size, differs, count, changed, locked_changed}
@@ -33,7 +33,7 @@ module _ (p : ℕ) (image t : List ℕ) (long : length image ≡ length t) where
 
   all-shared : shared_pages p image t ≡ length t / p
   unfolding shared_pages
-  all-shared = rw (long, le-ltb (length t / p) (length t / p) (omega arith))
+  all-shared = rw long (omega arith)
 
   -- storing counts the pages that differ
   pub stored-count : count_stored p image t ≡ changed p t image

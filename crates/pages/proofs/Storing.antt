@@ -5,9 +5,9 @@ use native.Mathlib.Nat.{zero-mul, suc-mul}
 use native.Mathlib.Numerals.{add-one}
 use native.Mathlib.Omega.{arith}
 use mathlib.Core.Bool.{true, false, not}
-use mathlib.Core.List.{List, ◌++◌, append_assoc, append-nil}
-use lib.ListN.{length, take, drop, length-append, length-take, length-drop, take-append-drop, drop_of_length-le}
-use lib.Seq.{take_at, drop_at, take-add, drop-drop, length-take-le, take-length}
+use mathlib.Core.List.{List, ◌++◌, append_assoc}
+use lib.ListN.{length, take, drop, length-append, length-take, length-drop, take-append-drop}
+use lib.Seq.{take_at, drop_at, take-add, drop-drop, length-take-le}
 use Rattle.format.specs.Bytes.{same, part}
 use Rattle.format.specs.Pages.{differs, count}
 use Rattle.format.proofs.Tests.{not_f, same-eq}
@@ -26,17 +26,6 @@ page-there p image t i e =
     let own : part (i * p) p t ≡ part (i * p) p image = same-eq _ _ (not_f (same (part (i * p) p t) (part (i * p) p image)) e) in
     sym (ap (λ (l : List ℕ). take (i * p) t ++ (l ++ drop p (drop (i * p) t))) (sym own)
     ∙ ap (λ (l : List ℕ). take (i * p) t ++ l) (take-append-drop p (drop (i * p) t)) ∙ take-append-drop (i * p) t)
-
--- the image's page copied over the tag's; m is the length that the code computes for a page
-pub page-copied : (p m i : ℕ) (image t z : List ℕ) → m ≡ p → i * p + p ≤ length image
-    → z ≡ take (length (take m (drop (i * p) image))) (take m (drop (i * p) image)) ++ drop (length (take m (drop (i * p) image))) (take m (drop (i * p) t))
-    → take (i * p) t ++ (z ++ drop m (drop (i * p) t)) ≡ with_page p image t i
-page-copied p m i image t z sized long e =
-    let short : length (take m (drop (i * p) t)) ≤ length (take m (drop (i * p) image)) = simp (length-take, length-drop) (omega arith) in
-    let page : z ≡ part (i * p) p image =
-    e ∙ ap₂ (λ (a b : List ℕ). a ++ b) (take-length (take m (drop (i * p) image))) (drop_of_length-le (take m (drop (i * p) t)) short)
-    ∙ append-nil (take m (drop (i * p) image)) ∙ ap (λ (k : ℕ). part (i * p) k image) sized in
-    ap₂ (λ (l : List ℕ) (k : ℕ). take (i * p) t ++ (l ++ drop k (drop (i * p) t))) page sized
 
 -- ---- the pages in turn
 

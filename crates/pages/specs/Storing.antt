@@ -1,9 +1,9 @@
 -- Storing an image on a tag, page by page: the last step of writing and editing. Document 01, "Numbers given back", 12 Locked, and the
 -- count of pages changed. The tests and the count are `format`'s. `p` is the page size.
-use Rattle.std.specs.Prelude.{ℕ, ◌+◌, ◌*◌, ◌/◌, ◌≤◌, ◌≡◌, Bool, not, List, [], ◌∷◌, ◌++◌, length, take, drop, get_or, eqb, ltb, if◌then◌else◌}
+use Rattle.std.specs.Prelude.{ℕ, ◌+◌, ◌*◌, ◌/◌, ◌≤◌, ◌≡◌, min, Bool, true, not, ◌&&◌, List, [], ◌∷◌, ◌++◌, length, take, drop, get_or, eqb}
 use Rattle.format.specs.Answers.{Step, need, in_order}
 use Rattle.format.specs.Bytes.{part}
-use Rattle.format.specs.Pages.{page_size, differs, count, locked_changed}
+use Rattle.format.specs.Pages.{page_size, good_size, lock_map, differs, count, locked_changed}
 
 -- 1 where the image is not as long as the tag t, 12 where a locked page would get other bytes
 unfoldable pub lock_judged : ℕ → List ℕ → List ℕ → List ℕ → Step
@@ -14,9 +14,13 @@ lock_judged p image t locks =
     [])
     tt
 
+-- a tag t that a call may write to: 1 is passed
+abbrev pub Sized : List ℕ → List ℕ → Type 0
+Sized t locks = good_size page_size (length t) && lock_map page_size locks (length t) ≡ true
+
 -- how many pages both have
 unfoldable pub shared_pages : ℕ → List ℕ → List ℕ → ℕ
-shared_pages p image t = let held : ℕ = length image / p in let pages : ℕ = length t / p in if ltb pages held then pages else held
+shared_pages p image t = min (length t / p) (length image / p)
 
 -- storing counts those of them that differ, and leaves the image's in the place of the tag's
 unfoldable pub count_stored : ℕ → List ℕ → List ℕ → ℕ

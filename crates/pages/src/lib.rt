@@ -4,15 +4,16 @@
 ghost use Rattle.std.specs.Prelude.{◌≡◌, not, ◌&&◌, ◌+◌, ◌*◌, ◌≤◌, ◌<◌, eqb, length};
 ghost use Rattle.format.specs.Answers.{need};
 ghost use Rattle.format.specs.Bytes.{all, same};
-ghost use Rattle.format.specs.Numbers.{stage_given};
+ghost use Rattle.format.specs.Numbers.{given};
 ghost use Rattle.format.specs.Pages.{page_size, good_size, lock_map, differs, locked_changed};
 ghost use Rattle.pages.specs.Storing.{is_open, number_at, lock_judged, SharedPage, SharedPages, with_page, count_stored, tag_stored};
 
-use format::Stage;
+use format::Reason;
 
 const PAGE: usize = 4;
 
 // Can a tag have n bytes: 32, or whole pages from 36 to 2,048.
+#[tactic(auto, unfolding(format::specs::Pages::good_size))]
 pub fn good_size(n: usize) -> bool
     ensures { result ≡ good_size page_size n }
 {
@@ -20,56 +21,30 @@ pub fn good_size(n: usize) -> bool
 }
 
 // Is this a lock map for a tag of n bytes: one byte for each page, each 0 or 1.
+#[tactic(auto, unfolding(format::specs::Pages::lock_map))]
 pub fn good_locks(locks: &[u8], n: usize) -> bool
     ensures { result ≡ lock_map page_size locks.now n }
 {
-    if locks.len() != n / PAGE {
-        return false;
-    }
-    let mut i = 0;
-    while i < locks.len() {
-        if 1 < locks[i] {
-            return false;
-        }
-        i += 1;
-    }
-    true
+    locks.len() == n / PAGE && locks.iter().all(|lock| *lock <= 1)
 }
 
 // 1: the tag's length, and its lock map.
-pub fn size_stage(n: usize, locks: &[u8]) -> Stage
-    ensures { stage_given result ≡ need 1 (good_size page_size n && lock_map page_size locks.now n) }
+#[tactic(auto, unfolding(format::specs::Answers::need))]
+pub fn size_stage(n: usize, locks: &[u8]) -> Result<(), Reason>
+    ensures { given result ≡ need 1 (good_size page_size n && lock_map page_size locks.now n) }
 {
-    if !good_size(n) {
-        return Stage::Refused(1);
+    if !good_size(n) || !good_locks(locks, n) {
+        return Err(Reason::Size);
     }
-    if !good_locks(locks, n) {
-        return Stage::Refused(1);
-    }
-    Stage::Passed
+    Ok(())
 }
 
-// Are the two equally long, with the same bytes. The loop goes on past a difference: so the compiler compares many bytes at once.
+// Are the two equally long, with the same bytes.
+#[tactic(auto, using(crate::proofs::Comparing::pointwise_same))]
 pub fn same(a: &[u8], b: &[u8]) -> bool
     ensures { result ≡ same a.now b.now }
 {
-    if a.len() != b.len() {
-        return false;
-    }
-    let mut equal = true;
-    let mut i = 0;
-    while i < a.len() {
-        equal = equal & (a[i] == b[i]);
-        i += 1;
-    }
-    equal
-}
-
-// Four bytes as one number, low byte first.
-fn number(a: u8, b: u8, c: u8, d: u8) -> u32
-    ensures { result ≡ a + 256 * b + 65536 * c + 16777216 * d }
-{
-    a as u32 + 256 * (b as u32) + 65536 * (c as u32) + 16777216 * (d as u32)
+    a == b
 }
 
 // The bytes of the page at `at` as one number, low byte first: the compiler makes it one load.
@@ -77,7 +52,7 @@ fn word(s: &[u8], at: usize) -> u32
     requires { at + page_size ≤ length s.now }
     ensures { result ≡ number_at s.now at }
 {
-    number(s[at], s[at + 1], s[at + 2], s[at + 3])
+    u32::from_le_bytes([s[at], s[at + 1], s[at + 2], s[at + 3]])
 }
 
 // Do the bytes of page i differ.
@@ -99,74 +74,61 @@ fn store_page(image: &[u8], tag: &mut [u8], i: usize)
     strings::copy(&image[at..end], &mut tag[at..end]);
 }
 
-// Is some page locked. As in `same`, the loop goes to the end.
+// Is some page locked. All bytes are looked at, past a locked one too: so the compiler looks at many at once.
 fn any_locked(locks: &[u8]) -> bool
     ensures { result ≡ not (all is_open locks.now) }
 {
-    let mut some = false;
-    let mut i = 0;
-    while i < locks.len() {
-        some = some | (locks[i] == 1);
-        i += 1;
-    }
-    some
+    locks.iter().fold(false, |some, lock| some | (*lock == 1))
 }
 
 // Would a locked page of the tag get other bytes. Pages that the lock map does not reach are open.
+#[tactic(auto, using(crate::proofs::Counting::none_locked), unfolding(format::specs::Pages::locked_differs))]
 fn locked_differs(image: &[u8], tag: &[u8], locks: &[u8]) -> bool
     requires { length image.now ≡ length tag.now }
     ensures { result ≡ not (eqb (locked_changed page_size locks.now tag.now image.now) 0) }
 {
     let pages = tag.len() / PAGE;
-    let mut i = 0;
-    while i < pages && i < locks.len() {
-        let locked = locks[i] == 1;
-        if locked {
-            if page_differs(tag, image, i) {
-                return true;
-            }
+    for i in 0..pages.min(locks.len()) {
+        if locks[i] == 1 && page_differs(tag, image, i) {
+            return true;
         }
-        i += 1;
     }
     false
 }
 
 // 12: a locked page would get other bytes. It is refused 1 where the image is not as long as the tag.
-pub fn lock_stage(image: &[u8], tag: &[u8], locks: &[u8]) -> Stage
-    ensures { stage_given result ≡ lock_judged page_size image.now tag.now locks.now }
+#[tactic(auto, using(crate::proofs::Counting::all_open), unfolding(crate::specs::Storing::lock_judged, format::specs::Answers::in_order, format::specs::Answers::need))]
+pub fn lock_stage(image: &[u8], tag: &[u8], locks: &[u8]) -> Result<(), Reason>
+    ensures { given result ≡ lock_judged page_size image.now tag.now locks.now }
 {
     if image.len() != tag.len() {
-        return Stage::Refused(1);
+        return Err(Reason::Size);
     }
     // where no page is locked, the pages need not be compared twice
     if any_locked(locks) && locked_differs(image, tag, locks) {
-        return Stage::Refused(12);
+        return Err(Reason::Locked);
     }
-    Stage::Passed
+    Ok(())
 }
 
 // How many pages both have.
+#[tactic(auto, unfolding(crate::specs::Storing::shared_pages))]
 fn shared_pages(image: &[u8], tag: &[u8]) -> usize
     ensures { SharedPages image.now tag.now result }
 {
-    let held = image.len() / PAGE;
-    let pages = tag.len() / PAGE;
-    if pages < held { pages } else { held }
+    (tag.len() / PAGE).min(image.len() / PAGE)
 }
 
 // Stores the pages that both have, page by page, and counts those whose bytes it changes.
 pub fn store(image: &[u8], tag: &mut [u8]) -> usize
     ensures { (result ≡ count_stored page_size image.now tag.old) × (tag.new ≡ tag_stored page_size image.now tag.old) }
 {
-    let pages = shared_pages(image, tag);
     let mut n: usize = 0;
-    let mut i = 0;
-    while i < pages {
+    for i in 0..shared_pages(image, tag) {
         if page_differs(tag, image, i) {
             store_page(image, tag, i);
             n += 1;
         }
-        i += 1;
     }
     n
 }

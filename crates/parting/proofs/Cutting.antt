@@ -23,20 +23,20 @@ use Rattle.parting.specs.declared.places.Cut.{Cut}
 use Rattle.parting.specs.Places.{isil_in, rest_in, cut_from, cut_in}
 use Rattle.parting.proofs.Finding.{count-last, count-more}
 
-abbrev place : ℕ → ℕ → Cut
-place item end = record { item = item; end = end }
+abbrev place : ℕ → ℕ → ℕ → Cut
+place isil item end = record { isil = isil; item = item; end = end }
 
 -- ---- from the identifier's beginning on
 
-module _ (s : List ℕ) (at end : ℕ) (inside : at ≤ length s) (first : end ≡ at + length (up_to dot (drop at s))) where
+module _ (s : List ℕ) (isil at end : ℕ) (inside : at ≤ length s) (first : end ≡ at + length (up_to dot (drop at s))) where
   abbrev rest : List ℕ
   rest = drop at s
 
-  found : leb (length (parts rest)) 2 ≡ true → got (place at end) ≡ cut_from s at
+  found : leb (length (parts rest)) 2 ≡ true → got (place isil at end) ≡ cut_from s isil at
   unfolding cut_from
-  found e = ap (λ (n : ℕ). got (place at n)) first ∙ sym (next-ok 22 (leb (length (parts rest)) 2) [] _ e ∙ none-ok _)
+  found e = ap (λ (n : ℕ). got (place isil at n)) first ∙ sym (next-ok 22 (leb (length (parts rest)) 2) [] _ e ∙ none-ok _)
 
-  pub cut-alone : length s ≤ end → got (place at end) ≡ cut_from s at
+  pub cut-alone : length s ≤ end → got (place isil at end) ≡ cut_from s isil at
   cut-alone h = found (le-leb (length (parts rest)) 2 (omega (arith, count-last rest (omega (arith, length-drop at s)))))
 
   module _ (next : ℕ) (more : end < length s) (second : next ≡ end + 1 + length (up_to dot (drop (end + 1) s))) where
@@ -48,10 +48,10 @@ module _ (s : List ℕ) (at end : ℕ) (inside : at ≤ length s) (first : end �
     one_more : length (parts rest) ≡ 1 + length (parts (drop (end + 1) s))
     one_more = count-more rest (omega (arith, length-drop at s)) ∙ ap (λ (l : List ℕ). 1 + length (parts l)) behind
 
-    pub cut-one : length s ≤ next → got (place at end) ≡ cut_from s at
+    pub cut-one : length s ≤ next → got (place isil at end) ≡ cut_from s isil at
     cut-one h = found (le-leb (length (parts rest)) 2 (omega (arith, one_more, count-last (drop (end + 1) s) (omega (arith, length-drop (end + 1) s)))))
 
-    pub cut-two : next < length s → refused (plain 22) ≡ cut_from s at
+    pub cut-two : next < length s → refused (plain 22) ≡ cut_from s isil at
     unfolding cut_from
     cut-two h =
         let p : List ℕ = drop (end + 1) s in
@@ -68,19 +68,19 @@ right_of n m k e h =
     (λ t. between-i {low = n + 1} {high = n + 2} {b = k} (omega arith) (omega (arith, leb-true m 2 t)))
 
 -- without an ISIL it begins the text
-pub cut-whole : (s : List ℕ) → cut_from s 0 ≡ cut_in false s
+pub cut-whole : (s : List ℕ) → cut_from s 0 0 ≡ cut_in false s
 unfolding cut_from cut_in right_count
-cut-whole s = ap (λ (b : Bool). in_order (need 22 b ∷ []) (place 0 (0 + length (up_to dot s)))) (sym (right_of 0 (length (parts s)) (length (parts s)) (omega arith) (parts-some s)))
+cut-whole s = ap (λ (b : Bool). in_order (need 22 b ∷ []) (place 0 0 (0 + length (up_to dot s)))) (sym (right_of 0 (length (parts s)) (length (parts s)) (omega arith) (parts-some s)))
 
 -- with one, behind the first dot
-pub cut-led : (s : List ℕ) (first : ℕ) → first ≡ 0 + length (up_to dot s) → (first ≡ length s → ⊥) → cut_from s (first + 1) ≡ cut_in true s
+pub cut-led : (s : List ℕ) (first : ℕ) → first ≡ 0 + length (up_to dot s) → (first ≡ length s → ⊥) → cut_from s first (first + 1) ≡ cut_in true s
 unfolding cut_from cut_in right_count
 cut-led s first e h =
     let n : first ≡ length (up_to dot s) = omega arith in
     let less : length (up_to dot s) < length s = omega (arith, up-to-length dot s) in
     let m : ℕ = length (parts (drop (first + 1) s)) in
     let count : length (parts s) ≡ 1 + m = count-more s less ∙ ap (λ (k : ℕ). 1 + length (parts (drop (k + 1) s))) (sym n) in
-    ap₂ (λ (b : Bool) (k : ℕ). in_order (need 22 b ∷ []) (place (k + 1) (k + 1 + length (up_to dot (drop (k + 1) s)))))
+    ap₂ (λ (b : Bool) (k : ℕ). in_order (need 22 b ∷ []) (place k (k + 1) (k + 1 + length (up_to dot (drop (k + 1) s)))))
     (sym (right_of 1 m (length (parts s)) count (parts-some (drop (first + 1) s)))) n
 
 pub cut-none : (s : List ℕ) (first : ℕ) → first ≡ 0 + length (up_to dot s) → first ≡ length s → refused (plain 22) ≡ cut_in true s
@@ -94,27 +94,29 @@ cut-none s first e h =
 -- no dot before the first, so the ISIL and the identifier are what stands there
 pub record Standing (leads : Bool) (s : List ℕ) (c : Cut) : Type 0 where
   pub counted : need 22 (right_count leads (parts s)) ≡ got tt
+  pub led : c.isil ≤ length s
   pub inside : c.item ≤ length s
   pub ordered : c.item ≤ c.end
   pub ended : c.end ≤ length s
-  pub isil : take (c.item - 1) s ≡ isil_in leads s
+  pub isil : take c.isil s ≡ isil_in leads s
   pub name : take (c.end - c.item) (drop c.item s) ≡ up_to dot (rest_in leads s)
   pub behind : drop c.end s ≡ drop (length (up_to dot (rest_in leads s))) (rest_in leads s)
 
 -- of an identifier that begins at a place, where the rest begins
-stands_at_lem : (leads : Bool) (s : List ℕ) (at : ℕ) → need 22 (right_count leads (parts s)) ≡ got tt → at ≤ length s → take (at - 1) s ≡ isil_in leads s → drop at s ≡ rest_in leads s
-    → Standing leads s (place at (at + length (up_to dot (drop at s))))
-stands_at_lem leads s at counted inside isil rest =
-    let n : ℕ = length (up_to dot (drop at s)) in
-    let long : at + n - at ≡ n = omega arith in
+stands_at_lem : (leads : Bool) (s : List ℕ) (n at : ℕ) → need 22 (right_count leads (parts s)) ≡ got tt → at ≤ length s → n ≤ length s → take n s ≡ isil_in leads s → drop at s ≡ rest_in leads s
+    → Standing leads s (place n at (at + length (up_to dot (drop at s))))
+stands_at_lem leads s n at counted inside led isil rest =
+    let k : ℕ = length (up_to dot (drop at s)) in
+    let long : at + k - at ≡ k = omega arith in
     record {
       counted = counted;
+      led = led;
       inside = inside;
       ordered = omega arith;
       ended = omega (arith, up-to-length dot (drop at s), length-drop at s);
       isil = isil;
-      name = ap (λ (k : ℕ). take k (drop at s)) long ∙ sym (up-to-take dot (drop at s)) ∙ ap (up_to dot) rest;
-      behind = sym (drop-drop n at s) ∙ ap (λ (l : List ℕ). drop (length (up_to dot l)) l) rest;
+      name = ap (λ (m : ℕ). take m (drop at s)) long ∙ sym (up-to-take dot (drop at s)) ∙ ap (up_to dot) rest;
+      behind = sym (drop-drop k at s) ∙ ap (λ (l : List ℕ). drop (length (up_to dot l)) l) rest;
     }
 
 one-part : (s : List ℕ) → leb (length s) (length (up_to dot s)) ≡ true → right_count true (parts s) ≡ true → ⊥
@@ -128,13 +130,12 @@ pub cut_stands : (leads : Bool) (s : List ℕ) (c : Cut) → cut_in leads s ≡ 
 unfolding cut_in
 cut_stands false s c e =
     let r = next-inv 22 _ [] _ c e in
-    subst (Standing false s) (worked [] _ c r.1).1 (stands_at_lem false s 0 (need-ok 22 _ r.0) (omega arith) refl refl)
+    subst (Standing false s) (worked [] _ c r.1).1 (stands_at_lem false s 0 0 (need-ok 22 _ r.0) (omega arith) (omega arith) refl refl)
 cut_stands true s c e =
     let r = next-inv 22 _ [] _ c e in
     let n : ℕ = length (up_to dot s) in
     let less : n + 1 ≤ length s = omega (arith, two-parts s r.0) in
-    let front : take (n + 1 - 1) s ≡ up_to dot s = ap (λ (k : ℕ). take k s) (let l : n + 1 - 1 ≡ n = omega arith in l) ∙ sym (up-to-take dot s) in
-    subst (Standing true s) (worked [] _ c r.1).1 (stands_at_lem true s (n + 1) (need-ok 22 _ r.0) less front (sym (past-drop dot s)))
+    subst (Standing true s) (worked [] _ c r.1).1 (stands_at_lem true s n (n + 1) (need-ok 22 _ r.0) less (omega arith) (sym (up-to-take dot s)) (sym (past-drop dot s)))
 
 -- a refusal is that of the count
 only_step : (st : Step) (a : Cut) (k : ℕ) → in_order (st ∷ []) a ≡ refused (plain k) → st ≡ refused (plain k)

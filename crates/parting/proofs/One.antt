@@ -3,12 +3,14 @@ use mathlib.Core.Path.{◌≡◌, ap}
 use Prim.Native.Nat.{ℕ}
 use mathlib.Core.Bool.{Bool}
 use mathlib.Core.List.{List}
-use Rattle.identifier.specs.declared.PartedAnswer.{PartedAnswer}
+use Rattle.std.specs.Prelude.{Result}
+use Rattle.format.specs.declared.Reason.{Reason}
+use Rattle.identifier.specs.declared.Parted.{Parted}
 use Rattle.identifier.specs.Elements.{Elements, three}
 use Rattle.identifier.specs.Calls.{parting, FillsThree}
 use Rattle.identifier.proofs.Promises.{fills-three-one}
 
-pub take-apart-one : (text : List ℕ) (leads : Bool) (item isil set : List ℕ) (r r₂ : PartedAnswer) (item' isil' set' item₂ isil₂ set₂ : List ℕ)
+pub take-apart-one : (text : List ℕ) (leads : Bool) (item isil set : List ℕ) (r r₂ : Result Parted Reason) (item' isil' set' item₂ isil₂ set₂ : List ℕ)
     → FillsThree (parting leads text (three item isil set)) r (three item' isil' set')
     → FillsThree (parting leads text (three item isil set)) r₂ (three item₂ isil₂ set₂)
     → (r ≡ r₂) × (item' ≡ item₂) × (isil' ≡ isil₂) × (set' ≡ set₂)

@@ -1,24 +1,25 @@
 -- What a part in the set's place says: its tests one by one, and its outcome by them.
 use mathlib.Core.Path.{◌≡◌, refl, sym, ap, ap₂, ◌∙◌}
-use Prim.Native.Nat.{ℕ, ◌+◌, ◌-◌, ◌/◌, ◌≤◌, ◌<◌}
+use Prim.Native.Nat.{ℕ, ◌-◌, ◌/◌, ◌≤◌}
 use native.Mathlib.Omega.{arith}
-use native.Mathlib.Nat.{sub-zero}
-use mathlib.Core.Bool.{Bool, true, false, not}
+use mathlib.Core.Bool.{Bool, true, false}
 use mathlib.Core.List.{List, [], ◌∷◌}
-use lib.ListN.{length, take, drop, length-take, length-drop, drop_of_length-le}
-use lib.Seq.{take_all}
+use lib.Dec.{eqb}
+use borrow.Author.Tests.{ne_eqb}
+use lib.ListN.{length, get_or, take, drop, length-take, length-drop}
+use Rattle.std.proofs.lemmas.List.{take_rest}
 use Rattle.format.specs.Answers.{plain, got, refused, need, in_order}
 use Rattle.format.specs.Bytes.{all, same}
 use Rattle.format.proofs.Answers.{next-ok, next-no, none-ok}
-use Rattle.format.proofs.Strings.{rest-opened}
-use Rattle.format.proofs.Tests.{never, or_l, same_truth, all_take, all_drop}
+use Rattle.format.proofs.Tests.{never, and_no, same_truth, all_take, all_drop}
 use Rattle.identifier.specs.SetDigits.{digit, number_in, total_in, ordinal_in, says_set}
 use Rattle.identifier.specs.Elements.{pointing, good_set}
 use Rattle.identifier.proofs.Sets.{Says, says_of, of-says}
 use Rattle.parting.specs.Places.{place_in}
-use Rattle.parting.specs.Sets.{SetNumbers, read_in, numbers_in, stands_in}
+use Rattle.parting.specs.declared.set.Set.{Set}
+use Rattle.parting.specs.Sets.{read_in, numbers_in, stands_in}
 
-abbrev numbers : ℕ → ℕ → SetNumbers
+abbrev numbers : ℕ → ℕ → Set
 numbers t o = record { total = t; ordinal = o }
 
 -- ---- digits
@@ -40,36 +41,23 @@ module _ (p : List ℕ) where
   abbrev half : ℕ
   half = length p / 2
 
-  back : take (length p - half) (drop half p) ≡ drop half p
-  back = take_all (length p - half) (drop half p) (omega (arith, length-drop half p))
-
-  pub total-read : number_in (take (half - 0) p) ≡ total_in p
-  total-read = ap (λ (n : ℕ). number_in (take n p)) (sub-zero half)
-
   pub ordinal-read : number_in (take (length p - half) (drop half p)) ≡ ordinal_in p
-  ordinal-read = ap number_in back
+  ordinal-read = ap number_in (take_rest p half)
 
   module _ (d : all digit p ≡ true) (few : length p ≤ 6) where
-    pub front-digits : (all digit (take (half - 0) p) ≡ true) × (length (take (half - 0) p) ≤ 3)
-    front-digits = (all_take digit (half - 0) p d, omega (arith, length-take (half - 0) p))
+    pub front-digits : (all digit (take half p) ≡ true) × (length (take half p) ≤ 3)
+    front-digits = (all_take digit half p d, omega (arith, length-take half p))
 
     pub back-digits : (all digit (take (length p - half) (drop half p)) ≡ true) × (length (take (length p - half) (drop half p)) ≤ 3)
-    back-digits = (
-      all_take digit (length p - half) (drop half p) (all_drop digit half p d),
-      omega (arith, length-take (length p - half) (drop half p), length-drop half p),
-    )
+    back-digits = rw (take_rest p half) (all_drop digit half p d, omega (arith, length-drop half p))
 
 -- ---- the set's place
 
-none-stands : got (numbers 0 0) ≡ stands_in []
-unfolding stands_in numbers_in good_set pointing
-none-stands = sym (next-ok 6 true _ (numbers 0 0) refl ∙ next-ok 23 true [] (numbers 0 0) refl ∙ none-ok _)
-
-s-stands : (p : List ℕ) → same p (0x53 ∷ []) ≡ true → refused (plain 23) ≡ stands_in (p ∷ [])
-unfolding stands_in good_set pointing
-s-stands p e =
-    let n : SetNumbers = numbers_in (p ∷ []) in
-    sym (next-ok 6 _ _ n (or_l (same p (0x53 ∷ [])) (says_set p) e) ∙ next-no 23 (not (same p (0x53 ∷ []))) [] n (ap not e))
+not-s : (p : List ℕ) → (length p ≡ 1 → get_or p 0 0 ≡ 0x53 → ⊥) → same p (0x53 ∷ []) ≡ false
+unfolding same
+not-s [] n = refl
+not-s (c ∷ []) n = rw (ne_eqb c 0x53 (n refl)) refl
+not-s (c ∷ d ∷ p) n = and_no (eqb c 0x53) false refl
 
 other-stands : (p : List ℕ) → same p (0x53 ∷ []) ≡ false → read_in p ≡ stands_in (p ∷ [])
 unfolding stands_in good_set pointing numbers_in read_in in_order need
@@ -80,23 +68,8 @@ other-stands p e = rw e (go (says_set p))
     go true = refl
     go false = refl
 
-pub nothing-stands : (len : ℕ) (rest : List ℕ) → length rest ≤ len → got (numbers 0 0) ≡ stands_in (place_in (drop len rest))
+-- behind a dot stands a part that is not S
+pub other-behind : (s p : List ℕ) → 1 ≤ length s → p ≡ take (length s - 1) (drop 1 s) → (length p ≡ 1 → get_or p 0 0 ≡ 0x53 → ⊥) → read_in p ≡ stands_in (place_in s)
 unfolding place_in
-nothing-stands len rest h = none-stands ∙ sym (ap (λ (l : List ℕ). stands_in (place_in l)) (drop_of_length-le rest h))
-
-module _ (rest : List ℕ) (len : ℕ) (h : len < length rest) where
-  -- the part as code takes it
-  abbrev behind : List ℕ
-  behind = take (length rest - (len + 1)) (drop (len + 1) rest)
-
-  place : place_in (drop len rest) ≡ behind ∷ []
-  unfolding place_in
-  place =
-      ap place_in (rest-opened rest len h)
-      ∙ sym (ap (λ (p : List ℕ). p ∷ []) (take_all (length rest - (len + 1)) (drop (len + 1) rest) (omega (arith, length-drop (len + 1) rest))))
-
-  pub s-behind : same behind (0x53 ∷ []) ≡ true → refused (plain 23) ≡ stands_in (place_in (drop len rest))
-  s-behind e = s-stands behind e ∙ sym (ap stands_in place)
-
-  pub other-behind : same behind (0x53 ∷ []) ≡ false → read_in behind ≡ stands_in (place_in (drop len rest))
-  other-behind e = other-stands behind e ∙ sym (ap stands_in place)
+other-behind [] p h e n = absurd (omega arith)
+other-behind (c ∷ s) p h e n = other-stands p (not-s p n) ∙ ap (λ (q : List ℕ). stands_in (q ∷ [])) (e ∙ take_rest (c ∷ s) 1)

@@ -1,42 +1,59 @@
--- Looking for the first dot from a place on: what a loop knows at each turn, and how a turn keeps it.
+-- Looking for the first dot from a place on.
 use mathlib.Core.Path.{◌≡◌, refl, sym, ap, ◌∙◌}
-use Prim.Native.Nat.{ℕ, ◌+◌, ◌-◌, ◌≤◌, ◌<◌}
+use Prim.Native.Nat.{ℕ, zero, suc, ◌+◌, ◌≤◌, ◌<◌}
 use native.Mathlib.Omega.{arith}
-use mathlib.Core.Bool.{Bool, true, false, ◌&&◌}
+use mathlib.Core.Bool.{true}
 use mathlib.Core.List.{List, [], ◌∷◌, ◌++◌}
-use lib.ListN.{length, take, drop, get_or, length-append, length-drop, take-append-drop, drop_of_length-le}
+use lib.ListN.{length, take, drop, get_or, length-append, length-drop, take-append-drop}
 use lib.Seq.{length-take-le, drop-drop}
-use lib.Dec.{leb}
-use borrow.Author.Tests.{eq-eqb, ne_eqb, leb-true, le-leb, lt-leb}
+use lib.Dec.{leb, ltb}
+use borrow.Author.Tests.{eq-eqb, ne_eqb, leb-true, lt-ltb, le-ltb, ltb-true, ltb-false}
+use Rattle.std.specs.Prelude.{None, Some}
 use Rattle.format.specs.Bytes.{up_to}
-use Rattle.format.proofs.Strings.{rest-opened}
-use Rattle.format.proofs.Tests.{and_l, and_r, and_left}
+use Rattle.format.proofs.Tests.{never}
+use Rattle.words.proofs.Cases.{decide}
+use Rattle.format.proofs.Tests.{and_l, and_r}
 use Rattle.identifier.specs.Parts.{dot, dotless}
 use Rattle.identifier.proofs.Splitting.{other, others}
-use Rattle.parting.specs.Places.{sixteen, Skips}
+use Rattle.parting.specs.Places.{sixteen, dot_at, Skips}
+
+-- the first dot stands behind as many bytes as there are before it
+pub first-dot : (s : List ℕ) (n : ℕ) → n < length s → get_or s n 0 ≡ dot → ((k : ℕ) → k < n → get_or s k 0 ≡ dot → ⊥) → n ≡ length (up_to dot s)
+unfolding up_to
+first-dot [] n h e before = absurd (omega arith)
+first-dot (c ∷ s) zero h e before = rw (eq-eqb c dot e) refl
+first-dot (c ∷ s) (suc n) h e before =
+    rw (ne_eqb c dot (before 0 (omega arith))) (ap suc (first-dot s n (omega arith) e (λ k l. before (suc k) (omega arith))))
+
+pub no-dot : (s : List ℕ) → ((k : ℕ) → k < length s → get_or s k 0 ≡ dot → ⊥) → length s ≡ length (up_to dot s)
+unfolding up_to
+no-dot [] none = refl
+no-dot (c ∷ s) none = rw (ne_eqb c dot (none 0 (omega arith))) (ap suc (no-dot s (λ k h. none (suc k) (omega arith))))
+
+-- ---- the place of the first dot from a place on
 
 module _ (s : List ℕ) (at : ℕ) where
-  pub skips-none : at ≤ length s → Skips s at at
-  skips-none h = record { inside = h; first = refl }
+  abbrev first_at : ℕ
+  first_at = at + length (up_to dot (drop at s))
 
-  module _ (i : ℕ) (p : Skips s at i) where
-    dot-here : i < length s → get_or s i 0 ≡ dot → up_to dot (drop i s) ≡ []
-    unfolding up_to
-    dot-here h e = rw (rest-opened s i h, eq-eqb (get_or s i 0) dot e) refl
+  pub some-dot : (n : ℕ) → n ≡ first_at → n < length s → Some n ≡ dot_at s at
+  unfolding dot_at
+  some-dot n e h = rw (sym e, lt-ltb n (length s) h) refl
 
-    none_here : i < length s → (get_or s i 0 ≡ dot → ⊥) → up_to dot (drop i s) ≡ get_or s i 0 ∷ up_to dot (drop (i + 1) s)
-    unfolding up_to
-    none_here h e = rw (rest-opened s i h, ne_eqb (get_or s i 0) dot e) refl
+  pub none-dot : length s ≤ first_at → None ≡ dot_at s at
+  unfolding dot_at
+  none-dot h = rw (le-ltb first_at (length s) h) refl
 
-    pub skips-one : i < length s → (get_or s i 0 ≡ dot → ⊥) → Skips s at (i + 1)
-    skips-one h e = record { inside = omega arith; first = omega (arith, p.first, ap length (none_here h e)) }
+  pub dot-some : {n : ℕ} → dot_at s at ≡ Some n → (n ≡ first_at) × (n < length s)
+  unfolding dot_at
+  dot-some {n} e =
+      decide (ltb first_at (length s))
+      (λ t. let is : first_at ≡ n = (let k = rw t at e in cc) in (sym is, omega (arith, is, ltb-true first_at (length s) t)))
+      (λ t. let k = rw t at e in never (cc))
 
-    pub found : i < length s → get_or s i 0 ≡ dot → i ≡ at + length (up_to dot (drop at s))
-    found h e = omega (arith, p.first, ap length (dot-here h e))
-
-    pub found_none : length s ≤ i → i ≡ at + length (up_to dot (drop at s))
-    unfolding up_to
-    found_none h = omega (arith, p.first, ap (λ (l : List ℕ). length (up_to dot l)) (drop_of_length-le s h))
+  pub dot-none : dot_at s at ≡ None → length s ≤ first_at
+  unfolding dot_at
+  dot-none e = decide (ltb first_at (length s)) (λ t. let k = rw t at e in never (cc)) (λ t. ltb-false first_at (length s) t)
 
 -- bytes without a dot stand before the first
 up-to-behind : (p r : List ℕ) → dotless p ≡ true → up_to dot (p ++ r) ≡ p ++ up_to dot r
@@ -53,16 +70,3 @@ skips-sixteen s at i p e =
     let more = length-append (take 16 r) (up_to dot (drop 16 r)) in
     let behind = ap (λ (l : List ℕ). length (up_to dot l)) (drop-drop 16 i s) in
     record { inside = omega (arith, length-drop i s); first = omega (arith, p.first, front, more, length-take-le 16 r long, behind) }
-
--- ---- sixteen bytes, where they are there
-
-module _ (s : List ℕ) (at : ℕ) where
-  pub fewer : length s - at < 16 → false ≡ sixteen (drop at s)
-  unfolding sixteen
-  fewer h = sym (and_left (leb 16 (length (drop at s))) (dotless (take 16 (drop at s))) (lt-leb 16 (length (drop at s)) (omega (arith, length-drop at s))))
-
-  pub next-sixteen : 16 ≤ length s - at → dotless (take (at + 16 - at) (drop at s)) ≡ sixteen (drop at s)
-  unfolding sixteen
-  next-sixteen h =
-      let n : at + 16 - at ≡ 16 = omega arith in
-      ap (λ (k : ℕ). dotless (take k (drop at s))) n ∙ sym (ap (λ (t : Bool). t && dotless (take 16 (drop at s))) (le-leb 16 (length (drop at s)) (omega (arith, length-drop at s))))

@@ -7,24 +7,23 @@ use lib.ListN.{length, drop}
 use Rattle.format.specs.Answers.{Answer, plain, got, refused, Step, need, in_order}
 use Rattle.format.specs.Bytes.{up_to, le16}
 use Rattle.format.specs.Elements.{set_bytes, form}
-use Rattle.format.specs.Numbers.{number_of}
+use Rattle.std.specs.Prelude.{Ok, Err}
+use Rattle.format.specs.Numbers.{reason_number}
+use Rattle.format.specs.declared.Reason.{Reason}
+use Rattle.format.specs.declared.Reason.TheVariants as reason
 use Rattle.format.specs.Pieces.{Stored}
 use Rattle.format.proofs.Answers.{need-inv, need-refused, next-ok, next-no, none-ok, first-no, refused-on, passed_on, worked}
 use Rattle.format.proofs.Pieces.{stored-front}
 use Rattle.format.proofs.Tests.{and_left}
-use Rattle.identifier.specs.declared.PartedAnswer.TheVariants.{Done, Refused}
 use Rattle.identifier.specs.Parts.{dot, parts}
 use Rattle.identifier.specs.Elements.{Elements, three, right_count, isil_part, item_part, set_place, pointing, good_set, good_parts, set_of, elements_of}
 use Rattle.identifier.specs.Calls.{Lengths, lengths, room_for, part_steps, filled_all, parting, FillsThree}
 use Rattle.identifier.proofs.Outcomes.{room-for, short-for, three-refused, three-done}
 use Rattle.identifier.specs.Demands.{Room, Short}
 use Rattle.parting.specs.Places.{isil_in, rest_in, place_in}
-use Rattle.parting.specs.Sets.{SetNumbers, numbers_in, stands_in}
+use Rattle.parting.specs.declared.set.Set.{Set}
+use Rattle.parting.specs.Sets.{numbers_in, stands_in}
 use Rattle.parting.proofs.Finding.{isil-found, item-found, set_found}
-
--- the number that a refusing stage gives
-pub number-given : {A : Type 0} (a : Answer A) {k n : ℕ} → a ≡ refused (plain k) → n ≡ number_of a → a ≡ refused (plain n)
-number-given a e h = e ∙ ap (λ j. refused (plain j)) (sym (h ∙ ap number_of e))
 
 three-same : {A : Type 0} {a b c a' b' c' : A} → a ≡ a' → b ≡ b' → c ≡ c' → three a b c ≡ three a' b' c'
 three-same p q r = rw (p, q, r) refl
@@ -50,9 +49,9 @@ module _ (leads : Bool) (s : List ℕ) (buffers : Elements) where
 
   -- ---- 22
 
-  pub count-refused : {k : ℕ} → need 22 (right_count leads (parts s)) ≡ refused (plain k) → FillsThree (parting leads s buffers) (Refused k) buffers
+  pub count-refused : {r : Reason} → need 22 (right_count leads (parts s)) ≡ refused (plain (reason_number r)) → FillsThree (parting leads s buffers) (Err r) buffers
   unfolding part_steps
-  count-refused {k} e = three-refused leads s buffers (first-no _ _ (lengths out) (plain k) e)
+  count-refused {r} e = three-refused leads s buffers (first-no _ _ (lengths out) (plain (reason_number r)) e)
 
   -- ---- behind the count: what code found are the parts
 
@@ -86,10 +85,10 @@ module _ (leads : Bool) (s : List ℕ) (buffers : Elements) where
 
     -- ---- 6, a name
 
-    pub names-refused : {k : ℕ} → need 6 good_names ≡ refused (plain k) → FillsThree (parting leads s buffers) (Refused k) buffers
-    names-refused {k} e =
-        let r = need-refused 6 good_names (plain k) e in
-        three-refused leads s buffers (behind-count ∙ next-no 6 _ _ (lengths out) (and_left good_names _ r.0) ∙ ap refused (sym r.1))
+    pub names-refused : {r : Reason} → need 6 good_names ≡ refused (plain (reason_number r)) → FillsThree (parting leads s buffers) (Err r) buffers
+    names-refused {r} e =
+        let n = need-refused 6 good_names (plain (reason_number r)) e in
+        three-refused leads s buffers (behind-count ∙ next-no 6 _ _ (lengths out) (and_left good_names _ n.0) ∙ ap refused (sym n.1))
 
     -- ---- 6 and 23, the set's place
 
@@ -97,13 +96,13 @@ module _ (leads : Bool) (s : List ℕ) (buffers : Elements) where
       behind-names : answer ≡ in_order (steps (good_set (set_place leads (parts s)))) (lengths out)
       behind-names = behind-count ∙ ap (λ (b : Bool). in_order (steps (b && good_set (set_place leads (parts s)))) (lengths out)) (need-inv 6 good_names tt named)
 
-      pub set-refused : {k : ℕ} → stands_in (place_in (drop (length name) rest)) ≡ refused (plain k) → FillsThree (parting leads s buffers) (Refused k) buffers
+      pub set-refused : {r : Reason} → stands_in (place_in (drop (length name) rest)) ≡ refused (plain (reason_number r)) → FillsThree (parting leads s buffers) (Err r) buffers
       unfolding stands_in
-      set-refused {k} e =
+      set-refused {r} e =
           three-refused leads s buffers
-          (behind-names ∙ refused-on (_ ∷ _ ∷ []) _ (numbers_in (set_place leads (parts s))) (lengths out) (plain k) (sym (ap stands_in place_is) ∙ e))
+          (behind-names ∙ refused-on (_ ∷ _ ∷ []) _ (numbers_in (set_place leads (parts s))) (lengths out) (plain (reason_number r)) (sym (ap stands_in place_is) ∙ e))
 
-      module _ {n : SetNumbers} (said : stands_in (place_in (drop (length name) rest)) ≡ got n) where
+      module _ {n : Set} (said : stands_in (place_in (drop (length name) rest)) ≡ got n) where
         behind-set : answer ≡ in_order (need 2 (room_for (lengths buffers) out) ∷ []) (lengths out)
         unfolding stands_in
         behind-set =
@@ -113,7 +112,7 @@ module _ (leads : Bool) (s : List ℕ) (buffers : Elements) where
         unfolding stands_in
         set_is =
             let e : numbers_in (set_place leads (parts s)) ≡ n = (worked _ (numbers_in (set_place leads (parts s))) n (sym (ap stands_in place_is) ∙ said)).1 in
-            ap (λ (m : SetNumbers). set_bytes m.total m.ordinal) (sym e) ∙ set-numbers (set_place leads (parts s))
+            ap (λ (m : Set). set_bytes m.total m.ordinal) (sym e) ∙ set-numbers (set_place leads (parts s))
 
         -- what code has found are the elements
         abbrev its : Elements
@@ -124,7 +123,7 @@ module _ (leads : Bool) (s : List ℕ) (buffers : Elements) where
 
         -- ---- 2
 
-        pub no_room : Short its buffers → FillsThree (parting leads s buffers) (Refused 2) buffers
+        pub no_room : Short its buffers → FillsThree (parting leads s buffers) (Err reason.Room) buffers
         no_room h = three-refused leads s buffers (behind-set ∙ next-no 2 _ [] (lengths out) (ap (room_for (lengths buffers)) out-is ∙ short-for h))
 
         -- ---- done
@@ -133,7 +132,7 @@ module _ (leads : Bool) (s : List ℕ) (buffers : Elements) where
             → Stored buffers.item 0 name p item
             → Stored buffers.isil 0 owner q isil
             → Stored buffers.set 0 (set_bytes n.total n.ordinal) 4 set
-            → FillsThree (parting leads s buffers) (Done (length name) (length owner) 4) (three item isil set)
+            → FillsThree (parting leads s buffers) (Ok (record { item = length name; isil = length owner; set = 4 })) (three item isil set)
         unfolding le16
         taken item isil set room si so ss =
             let done = behind-set ∙ next-ok 2 _ [] (lengths out) (ap (room_for (lengths buffers)) out-is ∙ room-for its buffers room) ∙ none-ok _ in

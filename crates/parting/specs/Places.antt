@@ -1,12 +1,10 @@
 -- Where code finds the parts of an identifier. No rule of document 02 stands here; proofs/Finding.antt and Cutting.antt say that these are the parts.
-use Rattle.std.specs.Prelude.{◌≡◌, ℕ, ◌+◌, ◌≤◌, Bool, ◌&&◌, List, [], ◌∷◌, length, take, drop, leb, if◌then◌else◌}
-use Rattle.format.specs.Answers.{Answer, plain, got, refused, need, in_order}
+use Rattle.std.specs.Prelude.{◌≡◌, ℕ, ◌+◌, ◌≤◌, Bool, ◌&&◌, List, [], ◌∷◌, length, take, drop, leb, ltb, if◌then◌else◌, Option, None, Some}
+use Rattle.format.specs.Answers.{Answer, need, in_order}
 use Rattle.format.specs.Bytes.{up_to, past}
 use Rattle.identifier.specs.Parts.{dot, dotless, parts}
 use Rattle.identifier.specs.Elements.{right_count}
 use Rattle.parting.specs.declared.places.Cut.{Cut}
-use Rattle.parting.specs.declared.places.CutAnswer.{CutAnswer}
-use Rattle.parting.specs.declared.places.CutAnswer.TheVariants as cut
 
 -- the ISIL, where one leads
 abbrev pub isil_in : Bool → List ℕ → List ℕ
@@ -27,18 +25,18 @@ place_in (c ∷ p) = p ∷ []
 unfoldable pub sixteen : List ℕ → Bool
 sixteen s = leb 16 (length s) && dotless (take 16 s)
 
+-- the place of the first dot from `at` on
+unfoldable pub dot_at : List ℕ → ℕ → Option ℕ
+dot_at s at = let n : ℕ = at + length (up_to dot (drop at s)) in if ltb n (length s) then Some n else None
+
 -- from `at` to r there is no dot
 pub record Skips (s : List ℕ) (at r : ℕ) : Type 0 where
   pub inside : r ≤ length s
   pub first : r + length (up_to dot (drop r s)) ≡ at + length (up_to dot (drop at s))
 
-abbrev pub cut_given : CutAnswer → Answer Cut
-cut_given (cut.Found c) = got c
-cut_given (cut.Refused k) = refused (plain k)
-
 -- an identifier that begins at a place, where no more than one part follows
-unfoldable pub cut_from : List ℕ → ℕ → Answer Cut
-cut_from s at = in_order (need 22 (leb (length (parts (drop at s))) 2) ∷ []) (record { item = at; end = at + length (up_to dot (drop at s)) })
+unfoldable pub cut_from : List ℕ → ℕ → ℕ → Answer Cut
+cut_from s isil at = in_order (need 22 (leb (length (parts (drop at s))) 2) ∷ []) (record { isil = isil; item = at; end = at + length (up_to dot (drop at s)) })
 
 -- where the identifier begins
 abbrev pub item_at : Bool → List ℕ → ℕ
@@ -47,4 +45,4 @@ item_at leads s = if leads then length (up_to dot s) + 1 else 0
 unfoldable pub cut_in : Bool → List ℕ → Answer Cut
 cut_in leads s =
     let at : ℕ = item_at leads s in
-    in_order (need 22 (right_count leads (parts s)) ∷ []) (record { item = at; end = at + length (up_to dot (drop at s)) })
+    in_order (need 22 (right_count leads (parts s)) ∷ []) (record { isil = length (isil_in leads s); item = at; end = at + length (up_to dot (drop at s)) })

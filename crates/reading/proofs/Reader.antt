@@ -1,4 +1,5 @@
 -- Reading: what looking and rendering give is what reading must give.
+use Rattle.std.specs.Prelude.{Result, Err}
 use mathlib.Core.Path.{◌≡◌, refl, sym, ap, ap₂, ◌∙◌}
 use Prim.Native.Nat.{ℕ, ◌+◌, ◌-◌, ◌≤◌}
 use mathlib.Core.Bool.{true}
@@ -7,18 +8,17 @@ use lib.Dec.{leb}
 use native.Mathlib.Omega.{arith}
 use lib.ListN.{length, take, drop, length-drop}
 use lib.Seq.{length-take-le}
-use Rattle.format.specs.Answers.{Answer, Refusal, refused, need, afterwards}
+use Rattle.format.specs.Answers.{Answer, refused, need, afterwards}
 use Rattle.format.specs.Bytes.{bytes, joined, part, filled}
 use Rattle.format.specs.Pages.{page_size}
 use Rattle.format.specs.Elements.{Content, numbers, values_at}
 use Rattle.format.specs.Sheet.{sheet_of, entries, fitting}
 use Rattle.format.specs.Reading.{content_in}
 use Rattle.format.specs.Calls.{sheet_in, read_steps, reading}
-use Rattle.format.specs.Numbers.{refusal_given, answer_given, read_given, Reads}
+use Rattle.format.specs.Numbers.{refusal_given, given, told, Reads}
 use Rattle.format.specs.declared.Refusal as code
-use Rattle.format.specs.declared.NumberAnswer.{NumberAnswer}
-use Rattle.format.specs.declared.ReadAnswer.{ReadAnswer}
-use Rattle.format.specs.declared.ReadAnswer.TheVariants as read
+use Rattle.format.specs.declared.Part.{Part}
+use Rattle.format.specs.declared.Reason.{Reason}
 use Rattle.format.proofs.Answers.{next-ok, afterwards-refused}
 use Rattle.format.proofs.Readable.{readable-on}
 use Rattle.rows.specs.Rows.{slots_at, Row}
@@ -30,14 +30,14 @@ use Rattle.look.proofs.Laws.{Seen}
 use Rattle.render.specs.Rendering.{carried_on, rendering, Renderable, Rendered}
 
 -- a refusal of looking is one of reading
-pub refused-reads : (t buffer : List ℕ) (x : Refusal) (r : code.Refusal) → judged t ≡ refused x → refusal_given r ≡ x → Reads t buffer (read.Refused r) buffer
+pub refused-reads : (t buffer : List ℕ) (x : code.Refusal) → judged t ≡ refused (refusal_given x) → Reads t buffer (Err x) buffer
 unfolding reading read_steps
-refused-reads t buffer x r j e =
+refused-reads t buffer x j =
     let ss = need 14 (fitting (entries (content_in t))) ∷ need 2 (leb (length (sheet_in t)) (length buffer)) ∷ [] in
-    let a : (reading page_size t buffer).answer ≡ refused x = steps-refused t ss (length (sheet_in t)) x j in
+    let a : (reading page_size t buffer).answer ≡ refused (refusal_given x) = steps-refused t ss (length (sheet_in t)) (refusal_given x) j in
     record {
-      answered = ap refused e ∙ sym a;
-      left = sym (afterwards-refused (reading page_size t buffer).answer x (filled (sheet_in t) buffer) buffer a);
+      answered = sym a;
+      left = sym (afterwards-refused (reading page_size t buffer).answer (refusal_given x) (filled (sheet_in t) buffer) buffer a);
     }
 
 pub seen-carried : (t : List ℕ) → (content_in t).carried ≡ carried_on t
@@ -45,7 +45,7 @@ unfolding content_in
 seen-carried t = refl
 
 -- what was seen of the tag t: where it lies, that it can be rendered, and that what is rendered of it is what is read
-module _ (t lent ats lens made : List ℕ) (v : View) (y : bytes t ≡ true) (s : Sighted t lent ats lens made v) (h : Seen t lent) where
+module _ {t lent : List ℕ} {row : List Part} {made : List ℕ} {v : View} (y : bytes t ≡ true) (s : Sighted t lent row made v) (h : Seen t lent) where
   pub sighted-made : 19 ≡ length made
   sighted-made = rw s.made-is (sym h.made-length)
 
@@ -55,13 +55,13 @@ module _ (t lent ats lens made : List ℕ) (v : View) (y : bytes t ≡ true) (s 
   sighted-blocks : v.blocks.len ≡ v.size → part v.blocks.at v.blocks.len t ≡ joined (content_in t).carried
   sighted-blocks = rw s.view-is h.blocks
 
-  sighted-slots : slots_at (t ++ made) ats lens ≡ (content_in t).slots
-  sighted-slots = rw (s.ats-is, s.lens-is, s.made-is) h.slots
+  sighted-slots : slots_at (t ++ made) row ≡ (content_in t).slots
+  sighted-slots = rw (s.row-is, s.made-is) h.slots
 
-  sighted-row : Row t made ats lens
-  sighted-row = rw (s.ats-is, s.lens-is, s.made-is) h.row
+  sighted-row : Row t made row
+  sighted-row = rw (s.row-is, s.made-is) h.row
 
-  pub sighted-renderable : Renderable t made ats lens v.count v.size (take (v.blocks.at + v.blocks.len - v.blocks.at) (drop v.blocks.at t))
+  pub sighted-renderable : Renderable t made row v.count v.size (take (v.blocks.at + v.blocks.len - v.blocks.at) (drop v.blocks.at t))
   sighted-renderable =
       let at : ℕ = v.blocks.at in
       let len : ℕ = v.blocks.len in
@@ -73,15 +73,15 @@ module _ (t lent ats lens made : List ℕ) (v : View) (y : bytes t ≡ true) (s 
         counted = rw s.view-is (h.count ∙ ap length (seen-carried t));
         sized = rw s.view-is (h.size ∙ ap (λ (bs : List (List ℕ)). length (joined bs)) (seen-carried t));
         row = sighted-row;
-        lengths = row-short t made ats lens sighted-row numbers (ap (values_at numbers) sighted-slots ∙ seen-values t s.seen y);
+        lengths = row-short t made row sighted-row numbers (ap (values_at numbers) sighted-slots ∙ seen-values t s.seen y);
         piece = λ l. cut ∙ sighted-blocks (sym whole ∙ ap length (sym cut) ∙ l) ∙ ap joined (seen-carried t);
       }
 
-  pub rendered-reads : (buffer : List ℕ) (r : NumberAnswer) (q : ReadAnswer) (sheet : List ℕ)
-      → Rendered (entries (record { slots = slots_at (t ++ made) ats lens; carried = carried_on t })) buffer r sheet → read_given q ≡ answer_given r → Reads t buffer q sheet
+  pub rendered-reads : (buffer : List ℕ) (r : Result ℕ Reason) (q : Result ℕ code.Refusal) (sheet : List ℕ)
+      → Rendered (entries (record { slots = slots_at (t ++ made) row; carried = carried_on t })) buffer r sheet → told q ≡ given r → Reads t buffer q sheet
   unfolding reading read_steps
   rendered-reads buffer r q sheet d i =
-      let c : Content = record { slots = slots_at (t ++ made) ats lens; carried = carried_on t } in
+      let c : Content = record { slots = slots_at (t ++ made) row; carried = carried_on t } in
       let e : c ≡ content_in t = ap₂ (λ (ss bs : List (List ℕ)). record { slots = ss; carried = bs }) sighted-slots (sym (seen-carried t)) in
       let n : ℕ = length (sheet_in t) in
       let a : (reading page_size t buffer).answer ≡ rendering (entries c) buffer =

@@ -3,36 +3,17 @@
 
 ghost use Rattle.format.specs.Numbers.{Reads};
 
-use format::{NumberAnswer, ReadAnswer, Refusal};
-use look::Look;
+use format::{Part, Refusal};
 use rows::PLACES;
 
 // Reads a tag into the lent sheet buffer: the sheet's length, and just that much filled; or the refusal, and nothing changed.
-pub fn read(tag: &[u8], sheet: &mut [u8]) -> ReadAnswer
+pub fn read(tag: &[u8], sheet: &mut [u8]) -> Result<usize, Refusal>
     ensures { Reads tag.now sheet.old result sheet.new }
 {
-    let mut ats = [0usize; PLACES];
-    let mut lens = [0usize; PLACES];
-    let mut made = [0u8; 19];
-    let looked = look::look_at(tag, &mut ats, &mut lens, &mut made);
-    let Look::Seen(view) = looked else {
-        return ReadAnswer::Refused(look::look_refusal(looked));
-    };
-    let blocks = view.blocks;
-    let from = blocks.at;
-    let end = from + blocks.len;
-    let rendered = render::render(
-        tag,
-        &made,
-        &ats,
-        &lens,
-        view.count,
-        view.size,
-        &tag[from..end],
-        sheet,
-    );
-    let NumberAnswer::Done(length) = rendered else {
-        return ReadAnswer::Refused(Refusal::Plain(format::answer_number(rendered)));
-    };
-    ReadAnswer::Done(length)
+    let mut row = [Part { at: 0, len: 0 }; PLACES];
+    let mut made = [0; 19];
+    let view = look::look_at(tag, &mut row, &mut made)?;
+    let blocks = &tag[view.blocks.at..view.blocks.at + view.blocks.len];
+    let length = render::render(tag, &made, &row, view.count, view.size, blocks, sheet)?;
+    Ok(length)
 }

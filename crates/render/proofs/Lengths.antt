@@ -1,70 +1,59 @@
--- A row by its lengths: a loop that sums over them, one that stores a head for each element, and one that stores the bytes of each.
-use mathlib.Core.Path.{◌≡◌, refl, ap, ◌∙◌}
-use mathlib.Core.List.{List, [], ◌∷◌, ◌++◌, map, append_assoc}
-use Prim.Native.Nat.{ℕ, suc, ◌+◌, ◌/◌, ◌%◌, ◌≤◌, ◌<◌, ◌*◌}
-use native.Mathlib.Nat.{add-zero, zero-add}
+-- The heads of a row, one for each element, and of carried blocks.
+use mathlib.Core.Path.{◌≡◌, refl, ap}
+use mathlib.Core.List.{List, [], ◌∷◌, ◌++◌, map}
+use Prim.Native.Nat.{ℕ, ◌+◌, ◌*◌, ◌≤◌, ◌<◌}
+use native.Mathlib.Nat.{add-zero}
 use native.Mathlib.Numerals.{add-one}
 use native.Mathlib.Omega.{arith}
-use lib.ListN.{length, get_or, take, drop, set, drop_of_length-le}
-use lib.Seq.{drop-cons, sets-eq}
-use borrow.Author.Tests.{ne_eqb}
-use Rattle.format.specs.Bytes.{le16, joined}
+use lib.Dec.{leb}
+use lib.ListN.{length, get_or, drop, get_or-map}
+use lib.Seq.{drop-cons}
+use borrow.Author.Tests.{ne_eqb, leb-true}
+use Rattle.std.proofs.lemmas.List.Sums.{sum_by-cons}
+use Rattle.format.specs.Bytes.{all, bytes, part, le16, joined}
 use Rattle.format.specs.Sheet.{heads, entries_at, carried_entries}
-use Rattle.format.specs.Pieces.{Stored}
-use Rattle.render.specs.Rendering.{head_of, heads_by, sum_by}
+use Rattle.format.specs.declared.Part.{Part}
+use Rattle.format.proofs.Tests.{never, and_l, and_r, bytes-at}
+use Rattle.rows.specs.Rows.{slots_at}
+use Rattle.rows.proofs.Rows.{nowhere, lens}
+use Rattle.render.specs.Rendering.{head_of, heads_by, size_by, Lengths}
 
--- ---- sums
+-- an element of a row, of at most 255 bytes
+pub length-at : (row : List Part) (k : ℕ) → Lengths row → (get_or row k nowhere).len ≤ 255
+length-at row k h = rw (get_or-map (λ (p : Part). p.len) row k nowhere) at (bytes-at k (lens row) h)
 
--- n is the sum before place k, at most m for each length; the rest makes it the whole
-pub record Summing (f : ℕ → ℕ) (m : ℕ) (lens : List ℕ) (n k : ℕ) : Type 0 where
-  pub inside : k ≤ length lens
-  pub small : n ≤ m * k
-  pub same : n + sum_by f (drop k lens) ≡ sum_by f lens
-
-pub summing_start : (f : ℕ → ℕ) (m : ℕ) (lens : List ℕ) → Summing f m lens 0 0
-summing_start f m lens = record { inside = omega arith; small = omega arith; same = zero-add (sum_by f lens) }
-
-module _ {f : ℕ → ℕ} {m : ℕ} {lens : List ℕ} {n k : ℕ} (s : Summing f m lens n k) where
-  pub summing-turn : (n' : ℕ) → k < length lens → n' ≡ n + f (get_or lens k 0) → f (get_or lens k 0) ≤ m → Summing f m lens n' (k + 1)
-  unfolding sum_by
-  summing-turn n' h e b =
-      let turn : sum_by f (drop k lens) ≡ f (get_or lens k 0) + sum_by f (drop (k + 1) lens) = rw (add-one, drop-cons lens k 0 h) in
-      record { inside = omega arith; small = omega arith; same = omega (arith, s.same) }
-
-  pub summing-end : length lens ≤ k → n ≡ sum_by f lens
-  unfolding sum_by
-  summing-end h =
-      let none : sum_by f (drop k lens) ≡ 0 = rw (drop_of_length-le lens {i = k} h) in
-      omega (arith, s.same)
-
--- ---- heads
-
--- four bytes stored one by one
-pub stored-head : (o : List ℕ) (at offset n len : ℕ) → at + 4 ≤ length o
-    → Stored o at (head_of offset n len) (at + 4) (set (set (set (set o at n) (at + 1) (offset % 256)) (at + 2) (offset / 256 % 256)) (at + 3) len)
-unfolding le16
-stored-head o at offset n len h =
-    let one : at + 1 ≡ suc at = omega arith in
-    let two : at + 2 ≡ suc (suc at) = omega arith in
-    let three : at + 3 ≡ suc (suc (suc at)) = omega arith in
-    (refl, rw (one, two, three) (sets-eq (head_of offset n len) o at h ∙ append_assoc (take at o) (head_of offset n len) (drop (at + 4) o)))
+pub size-at_most : (row : List Part) → Lengths row → size_by row ≤ 255 * length row
+unfolding all
+size-at_most [] h = omega arith
+size-at_most (p ∷ row) h =
+    let p-small : p.len ≤ 255 = leb-true p.len 255 (and_l (leb p.len 255) (bytes (lens row)) h) in
+    rw (sum_by-cons (λ (q : Part). q.len) p row) (omega (arith, p-small, size-at_most row (and_r (leb p.len 255) (bytes (lens row)) h)))
 
 -- the head of the element at place k, and those behind it
-module _ (at : ℕ) (ns lens : List ℕ) (k : ℕ) (h : k < length ns) (l : k < length lens) where
-  pub heads-some : (get_or lens k 0 ≡ 0 → ⊥) → heads_by at (drop k ns) (drop k lens) ≡ head_of at (get_or ns k 0) (get_or lens k 0) ∷ heads_by (at + get_or lens k 0) (drop (k + 1) ns) (drop (k + 1) lens)
+module _ (at : ℕ) (ns : List ℕ) (row : List Part) (k : ℕ) (d : Part) (h : k < length ns) (l : k < length row) where
+  pub heads-some : ((get_or row k d).len ≡ 0 → ⊥) → heads_by at (drop k ns) (drop k row) ≡ head_of at (get_or ns k 0) (get_or row k d).len ∷ heads_by (at + (get_or row k d).len) (drop (k + 1) ns) (drop (k + 1) row)
   unfolding heads_by
-  heads-some e = rw (add-one, drop-cons ns k 0 h, drop-cons lens k 0 l, ne_eqb (get_or lens k 0) 0 e)
+  heads-some e = rw (add-one, drop-cons ns k 0 h, drop-cons row k d l, ne_eqb (get_or row k d).len 0 e)
 
-  pub heads-none : get_or lens k 0 ≡ 0 → heads_by at (drop k ns) (drop k lens) ≡ [] ∷ heads_by at (drop (k + 1) ns) (drop (k + 1) lens)
+  pub heads-none : (get_or row k d).len ≡ 0 → heads_by at (drop k ns) (drop k row) ≡ [] ∷ heads_by at (drop (k + 1) ns) (drop (k + 1) row)
   unfolding heads_by
-  heads-none e = rw (add-one, drop-cons ns k 0 h, drop-cons lens k 0 l, e, add-zero)
+  heads-none e = rw (add-one, drop-cons ns k 0 h, drop-cons row k d l, e, add-zero)
 
-pub heads-by : (at : ℕ) (ns : List ℕ) (ss : List (List ℕ)) → joined (heads_by at ns (map length ss)) ≡ heads at (entries_at ns ss)
+-- of strings that are as long as a row says
+pub heads-by : (at : ℕ) (ns : List ℕ) (ss : List (List ℕ)) (row : List Part) → map length ss ≡ lens row → joined (heads_by at ns row) ≡ heads at (entries_at ns ss)
 unfolding heads_by heads entries_at joined le16
-heads-by at [] ss = refl
-heads-by at (n ∷ ns) [] = refl
-heads-by at (n ∷ ns) ([] ∷ ss) = heads-by (at + 0) ns ss ∙ ap (λ (k : ℕ). heads k (entries_at ns ss)) (add-zero at)
-heads-by at (n ∷ ns) ((x ∷ s) ∷ ss) = rw (ne_eqb (length (x ∷ s)) 0 (λ e. omega arith)) (ap (λ (r : List ℕ). head_of at n (length (x ∷ s)) ++ r) (heads-by (at + length (x ∷ s)) ns ss))
+heads-by at [] ss row e = refl
+heads-by at (n ∷ ns) [] [] e = refl
+heads-by at (n ∷ ns) [] (p ∷ row) e = never (cc)
+heads-by at (n ∷ ns) (s ∷ ss) [] e = never (cc)
+heads-by at (n ∷ ns) ([] ∷ ss) (p ∷ row) e =
+    let z : p.len ≡ 0 = cc in
+    let f : map length ss ≡ lens row = cc in
+    rw (z, add-zero) (heads-by at ns ss row f)
+heads-by at (n ∷ ns) ((x ∷ s) ∷ ss) (p ∷ row) e =
+    let z : p.len ≡ length (x ∷ s) = cc in
+    let f : map length ss ≡ lens row = cc in
+    rw (z, ne_eqb (length (x ∷ s)) 0 (λ y. omega arith)) (ap (λ (r : List ℕ). head_of at n (length (x ∷ s)) ++ r) (heads-by (at + length (x ∷ s)) ns ss row f))
 
 -- the heads of carried blocks
 unfoldable pub carried_heads : ℕ → List (List ℕ) → List (List ℕ)
@@ -75,3 +64,8 @@ pub heads-carried : (at : ℕ) (bs : List (List ℕ)) → joined (carried_heads 
 unfolding carried_heads heads carried_entries joined le16
 heads-carried at [] = refl
 heads-carried at (b ∷ bs) = ap (λ (r : List ℕ). head_of at 255 (length b) ++ r) (heads-carried (at + length b) bs)
+
+-- the bytes of the element at place k, and those behind them
+pub slots-turn : (s : List ℕ) (row : List Part) (k : ℕ) (d : Part) → k < length row → slots_at s (drop k row) ≡ part (get_or row k d).at (get_or row k d).len s ∷ slots_at s (drop (k + 1) row)
+unfolding slots_at
+slots-turn s row k d h = rw (add-one, drop-cons row k d h)

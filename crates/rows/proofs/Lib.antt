@@ -1,4 +1,2 @@
-pub mod Table
-pub mod Standing
 pub mod Rows
 pub mod One

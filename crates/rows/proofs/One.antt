@@ -4,6 +4,7 @@ use Prim.Native.Nat.{ℕ}
 use mathlib.Core.List.{List, ◌++◌}
 use lib.ListN.{get_or}
 use denote.Ref.{Bor}
+use Rattle.format.specs.declared.Part.{Part}
 use Rattle.format.specs.Bytes.{part}
 use Rattle.format.specs.Elements.{numbers, place}
 
@@ -13,5 +14,5 @@ number-at-one k r r₂ a b = a ∙ sym b
 pub place-of-one : (number r r₂ : ℕ) → r ≡ place number → r₂ ≡ place number → r ≡ r₂
 place-of-one number r r₂ a b = a ∙ sym b
 
-pub piece-one : (src made : List ℕ) (at len : ℕ) (r r₂ : Bor (List ℕ)) → r.now ≡ part at len (src ++ made) → r₂.now ≡ part at len (src ++ made) → r.now ≡ r₂.now
-piece-one src made at len r r₂ a b = a ∙ sym b
+pub piece-one : (src made : List ℕ) (element : Part) (r r₂ : Bor (List ℕ)) → r.now ≡ part element.at element.len (src ++ made) → r₂.now ≡ part element.at element.len (src ++ made) → r.now ≡ r₂.now
+piece-one src made element r r₂ a b = a ∙ sym b

@@ -4,110 +4,87 @@ use mathlib.Core.Logic.{inl, inr}
 use Prim.Native.Nat.{ℕ, zero, suc, ◌+◌, ◌≤◌, ◌<◌}
 use native.Mathlib.Nat.{le_of_suc-le-suc, not-suc-le-zero}
 use native.Mathlib.Omega.{arith}
-use native.Mathlib.Numerals.{add-one}
 use mathlib.Core.List.{List, [], ◌∷◌, ◌++◌, map, append_assoc}
 use lib.ListN.{length, get_or, take, drop, set, length-append, length-drop}
-use lib.Seq.{length-take-le, take-append-le, drop-append-le, drop-cons}
+use lib.Seq.{length-take-le, take-append-le, drop-append-le}
 use mathlib.Core.Bool.{true}
 use borrow.Author.Tests.{le-leb}
 use Rattle.format.specs.Bytes.{all, bytes, part}
 use Rattle.format.specs.Elements.{value, values_at}
 use Rattle.format.proofs.Tests.{never, and_l, and_r, and_i}
 use Rattle.format.proofs.Values.{value-short}
+use Rattle.format.specs.declared.Part.{Part}
 use Rattle.rows.specs.Rows.{slots_at, Stands, Row, none, next}
 
--- ---- the lists of a row are equally long
+-- where nothing stands, past the end of a row
+abbrev pub nowhere : Part
+nowhere = record { at = 0; len = 0 }
 
-pub row-lengths : (src made ats lens : List ℕ) → Row src made ats lens → length lens ≡ length ats
-row-lengths src made [] [] none = refl
-row-lengths src made (at ∷ ats) (len ∷ lens) (next s r) = ap suc (row-lengths src made ats lens r)
-row-lengths src made [] (len ∷ lens) w = elim w [ ]
-row-lengths src made (at ∷ ats) [] w = elim w [ ]
-
-pub slots_length : (s ats lens : List ℕ) → length lens ≡ length ats → length (slots_at s ats lens) ≡ length ats
+pub slots_length : (s : List ℕ) (row : List Part) → length (slots_at s row) ≡ length row
 unfolding slots_at
-slots_length s [] lens e = refl
-slots_length s (at ∷ ats) [] e = absurd (omega (arith, e))
-slots_length s (at ∷ ats) (len ∷ lens) e = ap suc (slots_length s ats lens (omega (arith, e)))
+slots_length s [] = refl
+slots_length s (p ∷ row) = ap suc (slots_length s row)
 
 -- ---- one place
 
-pub row_at : (src made ats lens : List ℕ) → Row src made ats lens → (k : ℕ) → k < length ats → Stands src made (get_or ats k 0) (get_or lens k 0)
-row_at src made [] [] none k h = absurd (not-suc-le-zero h)
-row_at src made (at ∷ ats) (len ∷ lens) (next s r) zero h = s
-row_at src made (at ∷ ats) (len ∷ lens) (next s r) (suc k) h = row_at src made ats lens r k (le_of_suc-le-suc h)
-row_at src made [] (len ∷ lens) w k h = elim w [ ]
-row_at src made (at ∷ ats) [] w k h = elim w [ ]
+pub row_at : (src made : List ℕ) (row : List Part) → Row src made row → (k : ℕ) (d : Part) → k < length row → Stands src made (get_or row k d)
+row_at src made [] none k d h = absurd (not-suc-le-zero h)
+row_at src made (p ∷ row) (next s r) zero d h = s
+row_at src made (p ∷ row) (next s r) (suc k) d h = row_at src made row r k d (le_of_suc-le-suc h)
 
-pub slot_at : (s ats lens : List ℕ) → length lens ≡ length ats → (k : ℕ) → k < length ats → get_or (slots_at s ats lens) k [] ≡ part (get_or ats k 0) (get_or lens k 0) s
+pub slot_at : (s : List ℕ) (row : List Part) (k : ℕ) (d : Part) → k < length row → get_or (slots_at s row) k [] ≡ part (get_or row k d).at (get_or row k d).len s
 unfolding slots_at
-slot_at s [] lens e k h = absurd (not-suc-le-zero h)
-slot_at s (at ∷ ats) [] e k h = absurd (omega (arith, e))
-slot_at s (at ∷ ats) (len ∷ lens) e zero h = refl
-slot_at s (at ∷ ats) (len ∷ lens) e (suc k) h = slot_at s ats lens (omega (arith, e)) k (le_of_suc-le-suc h)
-
--- the bytes of the element at place k, and of those behind it
-pub row-turn : {src made ats lens : List ℕ} (k : ℕ) → Row src made ats lens → k < length ats → let s : List ℕ = src ++ made in
-    Stands src made (get_or ats k 0) (get_or lens k 0) × (slots_at s (drop k ats) (drop k lens) ≡ part (get_or ats k 0) (get_or lens k 0) s ∷ slots_at s (drop (k + 1) ats) (drop (k + 1) lens))
-unfolding slots_at
-row-turn {src} {made} {ats} {lens} k r h =
-    let l : k < length lens = omega (arith, row-lengths src made ats lens r) in
-    (row_at src made ats lens r k h, rw (add-one, drop-cons ats k 0 h, drop-cons lens k 0 l))
+slot_at s [] k d h = absurd (not-suc-le-zero h)
+slot_at s (p ∷ row) zero d h = refl
+slot_at s (p ∷ row) (suc k) d h = slot_at s row k d (le_of_suc-le-suc h)
 
 -- what stands is as long as the row says
-pub standing-length : (src made : List ℕ) (at len : ℕ) → Stands src made at len → length (part at len (src ++ made)) ≡ len
-standing-length src made at len s =
+pub standing-length : (src made : List ℕ) (p : Part) → Stands src made p → length (part p.at p.len (src ++ made)) ≡ p.len
+standing-length src made p s =
     let l = length-append src made in
-    let m : at + len ≤ length (src ++ made) = elim s [ inl e ↦ omega (arith, l, e) | inr e ↦ omega (arith, l, e.1) ] in
-    length-take-le len (drop at (src ++ made)) (omega (arith, length-drop at (src ++ made), m))
+    let m : p.at + p.len ≤ length (src ++ made) = elim s [ inl e ↦ omega (arith, l, e) | inr e ↦ omega (arith, l, e.1) ] in
+    length-take-le p.len (drop p.at (src ++ made)) (omega (arith, length-drop p.at (src ++ made), m))
 
-pub lengths-are : (src made ats lens : List ℕ) → Row src made ats lens → map length (slots_at (src ++ made) ats lens) ≡ lens
+abbrev pub lens : List Part → List ℕ
+lens row = map (λ (p : Part). p.len) row
+
+pub lengths-are : (src made : List ℕ) (row : List Part) → Row src made row → map length (slots_at (src ++ made) row) ≡ lens row
 unfolding slots_at
-lengths-are src made [] [] none = refl
-lengths-are src made (at ∷ ats) (len ∷ lens) (next s r) = ap₂ (λ (x : ℕ) (y : List ℕ). x ∷ y) (standing-length src made at len s) (lengths-are src made ats lens r)
-lengths-are src made [] (len ∷ lens) w = elim w [ ]
-lengths-are src made (at ∷ ats) [] w = elim w [ ]
+lengths-are src made [] none = refl
+lengths-are src made (p ∷ row) (next s r) = ap₂ (λ (x : ℕ) (y : List ℕ). x ∷ y) (standing-length src made p s) (lengths-are src made row r)
 
 -- ---- an edit is one store into the row
 
-pub slots_set : (s ats lens : List ℕ) (k at len : ℕ) → slots_at s (set ats k at) (set lens k len) ≡ set (slots_at s ats lens) k (part at len s)
+pub slots_set : (s : List ℕ) (row : List Part) (k : ℕ) (p : Part) → slots_at s (set row k p) ≡ set (slots_at s row) k (part p.at p.len s)
 unfolding slots_at
-slots_set s [] lens k at len = refl
-slots_set s (a ∷ ats) [] zero at len = refl
-slots_set s (a ∷ ats) [] (suc k) at len = refl
-slots_set s (a ∷ ats) (l ∷ lens) zero at len = refl
-slots_set s (a ∷ ats) (l ∷ lens) (suc k) at len = ap (λ (r : List (List ℕ)). part a l s ∷ r) (slots_set s ats lens k at len)
+slots_set s [] k p = refl
+slots_set s (q ∷ row) zero p = refl
+slots_set s (q ∷ row) (suc k) p = ap (λ (r : List (List ℕ)). part q.at q.len s ∷ r) (slots_set s row k p)
 
-pub row-set : (src made ats lens : List ℕ) → Row src made ats lens → (k at len : ℕ) → Stands src made at len → Row src made (set ats k at) (set lens k len)
-row-set src made [] [] none k at len h = none
-row-set src made (a ∷ ats) (l ∷ lens) (next s r) zero at len h = next h r
-row-set src made (a ∷ ats) (l ∷ lens) (next s r) (suc k) at len h = next s (row-set src made ats lens r k at len h)
-row-set src made [] (l ∷ lens) w k at len h = elim w [ ]
-row-set src made (a ∷ ats) [] w k at len h = elim w [ ]
+pub row-set : (src made : List ℕ) (row : List Part) → Row src made row → (k : ℕ) (p : Part) → Stands src made p → Row src made (set row k p)
+row-set src made [] none k p h = none
+row-set src made (q ∷ row) (next s r) zero p h = next h r
+row-set src made (q ∷ row) (next s r) (suc k) p h = next s (row-set src made row r k p h)
 
 -- ---- and more may be made
 
-pub stands-more : (src made more : List ℕ) (at len : ℕ) → Stands src made at len → Stands src (made ++ more) at len
-stands-more src made more at len s = elim s [ inl e ↦ inl e | inr e ↦ inr (e.0, omega (arith, e.1, length-append made more)) ]
+pub stands-more : (src made more : List ℕ) (p : Part) → Stands src made p → Stands src (made ++ more) p
+stands-more src made more p s = elim s [ inl e ↦ inl e | inr e ↦ inr (e.0, omega (arith, e.1, length-append made more)) ]
 
-pub row_more : (src made more ats lens : List ℕ) → Row src made ats lens → Row src (made ++ more) ats lens
-row_more src made more [] [] none = none
-row_more src made more (at ∷ ats) (len ∷ lens) (next s r) = next (stands-more src made more at len s) (row_more src made more ats lens r)
-row_more src made more [] (len ∷ lens) w = elim w [ ]
-row_more src made more (at ∷ ats) [] w = elim w [ ]
+pub row_more : (src made more : List ℕ) (row : List Part) → Row src made row → Row src (made ++ more) row
+row_more src made more [] none = none
+row_more src made more (p ∷ row) (next s r) = next (stands-more src made more p s) (row_more src made more row r)
 
 part-more : (s more : List ℕ) (at len : ℕ) → at + len ≤ length s → part at len (s ++ more) ≡ part at len s
 part-more s more at len h = ap (take len) (drop-append-le at s more (omega (arith, h))) ∙ take-append-le len (drop at s) more (omega (arith, h, length-drop at s))
 
-pub slots-more : (src made more ats lens : List ℕ) → Row src made ats lens → slots_at (src ++ (made ++ more)) ats lens ≡ slots_at (src ++ made) ats lens
+pub slots-more : (src made more : List ℕ) (row : List Part) → Row src made row → slots_at (src ++ (made ++ more)) row ≡ slots_at (src ++ made) row
 unfolding slots_at
-slots-more src made more [] [] none = refl
-slots-more src made more (at ∷ ats) (len ∷ lens) (next s r) =
+slots-more src made more [] none = refl
+slots-more src made more (p ∷ row) (next s r) =
     let l = length-append src made in
-    let m : at + len ≤ length (src ++ made) = elim s [ inl e ↦ omega (arith, l, e) | inr e ↦ omega (arith, l, e.1) ] in
-    ap₂ (λ (x : List ℕ) (y : List (List ℕ)). x ∷ y) (ap (part at len) (sym (append_assoc src made more)) ∙ part-more (src ++ made) more at len m) (slots-more src made more ats lens r)
-slots-more src made more [] (len ∷ lens) w = elim w [ ]
-slots-more src made more (at ∷ ats) [] w = elim w [ ]
+    let m : p.at + p.len ≤ length (src ++ made) = elim s [ inl e ↦ omega (arith, l, e) | inr e ↦ omega (arith, l, e.1) ] in
+    ap₂ (λ (x : List ℕ) (y : List (List ℕ)). x ∷ y) (ap (part p.at p.len) (sym (append_assoc src made more)) ∙ part-more (src ++ made) more p.at p.len m) (slots-more src made more row r)
 
 -- ---- values
 
@@ -119,5 +96,5 @@ values-short [] (s ∷ ss) e = never (cc)
 values-short (n ∷ ns) [] e = never (cc)
 values-short (n ∷ ns) (s ∷ ss) e = and_i (le-leb (length s) 255 (value-short n s (and_l (value n s) (values_at ns ss) e))) (values-short ns ss (and_r (value n s) (values_at ns ss) e))
 
-pub row-short : (src made ats lens : List ℕ) → Row src made ats lens → (ns : List ℕ) → values_at ns (slots_at (src ++ made) ats lens) ≡ true → bytes lens ≡ true
-row-short src made ats lens r ns e = ap (λ (l : List ℕ). bytes l) (sym (lengths-are src made ats lens r)) ∙ values-short ns (slots_at (src ++ made) ats lens) e
+pub row-short : (src made : List ℕ) (row : List Part) → Row src made row → (ns : List ℕ) → values_at ns (slots_at (src ++ made) row) ≡ true → bytes (lens row) ≡ true
+row-short src made row r ns e = ap (λ (l : List ℕ). bytes l) (sym (lengths-are src made row r)) ∙ values-short ns (slots_at (src ++ made) row) e

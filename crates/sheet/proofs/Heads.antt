@@ -1,6 +1,6 @@
 -- A sheet is right exactly if its heads, taken one after the other, name numbers that rise and the offsets that come, and its bytes
 -- end with the last: what the code tests, against what the definition says.
-use Rattle.std.specs.Prelude.{if◌then◌else◌}
+use Rattle.std.specs.Prelude.{if◌then◌else◌, min}
 use mathlib.Core.Path.{◌≡◌, refl, sym, ap, ap₂, ◌∙◌}
 use Prim.Native.Nat.{ℕ, zero, suc, ◌+◌, ◌*◌, ◌≤◌, ◌<◌}
 use native.Mathlib.Numerals.{add-one}
@@ -22,6 +22,15 @@ use Rattle.sheet.specs.Scanning.{body_in}
 -- the least number that may follow a number: numbers rise strictly, and 255 may repeat
 unfoldable pub least : ℕ → ℕ
 least n = if eqb n 255 then 255 else n + 1
+
+-- the code adds one, and 255 stays
+pub least-is : (n : ℕ) → n ≤ 255 → least n ≡ min (n + 1) 255
+unfolding least
+least-is n h = go (eqb n 255) refl
+  where
+    go : (t : Bool) → eqb n 255 ≡ t → (if t then 255 else n + 1) ≡ min (n + 1) 255
+    go true e = omega (arith, eqb-true n 255 e)
+    go false e = omega (arith, eqb-false n 255 e)
 
 -- k heads at h: their offsets are where their bytes begin, from `at` on, and the last bytes end at `stop`
 unfoldable pub offsets_right : ℕ → ℕ → List ℕ → ℕ → Bool

@@ -18,20 +18,20 @@ use Rattle.format.proofs.Tests.{and_l, and_r, and_i, not_t}
 use Rattle.format.proofs.Sheets.{body_is, sheet-right}
 use Rattle.format.proofs.Entries.{values-parts, find-values, entries-content}
 use Rattle.rows.specs.Rows.{slots_at, Row, none, next}
-use Rattle.sheet.specs.Scanning.{body_in, lengths_of, starts_of, end_of, lens_in, ats_in, carried_at}
+use Rattle.sheet.specs.Scanning.{body_in, lengths_of, row_of, end_of, lens_in, row_in, carried_at}
 use Rattle.sheet.proofs.Heads.{right-body}
 
 -- ---- strings one behind the other
 
 -- from `at` on, these strings stand in s, and then r
 record Standing (s : List ℕ) (ss : List (List ℕ)) (r : List ℕ) (at : ℕ) : Type 0 where
-  row : Row s [] (starts_of at (map length ss)) (map length ss)
-  slots : slots_at s (starts_of at (map length ss)) (map length ss) ≡ ss
+  row : Row s [] (row_of at (map length ss))
+  slots : slots_at s (row_of at (map length ss)) ≡ ss
   end-inside : end_of at (map length ss) ≤ length s
   behind : drop (end_of at (map length ss)) s ≡ r
 
 standing : (s : List ℕ) (ss : List (List ℕ)) (r : List ℕ) (at : ℕ) → drop at s ≡ joined ss ++ r → at + length (joined ss) ≤ length s → Standing s ss r at
-unfolding joined starts_of end_of slots_at
+unfolding joined row_of end_of slots_at
 standing s [] r at e h = record { row = none; slots = refl; end-inside = omega arith; behind = e }
 standing s (b ∷ ss) r at e h =
     let first : drop at s ≡ b ++ (joined ss ++ r) = e ∙ append_assoc b (joined ss) r in
@@ -39,7 +39,7 @@ standing s (b ∷ ss) r at e h =
     let next-bytes : drop (at + length b) s ≡ joined ss ++ r = sym (drop-drop (length b) at s) ∙ ap (drop (length b)) first ∙ drop-append_seam b (joined ss ++ r) in
     let ih = standing s ss r (at + length b) next-bytes (omega arith) in
     record {
-      row = next {at = at} {len = length b} (inl (omega arith)) ih.row;
+      row = next (inl (omega arith)) ih.row;
       slots = ap₂ (λ (x : List ℕ) (y : List (List ℕ)). x ∷ y) (ap (take (length b)) first ∙ take-append_seam b (joined ss ++ r)) ih.slots;
       end-inside = ih.end-inside;
       behind = ih.behind;
@@ -96,8 +96,8 @@ module _ (cs : List (List ℕ)) where
 
 -- what a good sheet holds, as scanning finds it
 pub record Found (s : List ℕ) : Type 0 where
-  pub row : Row s [] (ats_in s) (lens_in s)
-  pub slots : slots_at (s ++ []) (ats_in s) (lens_in s) ≡ (sheet_content s).slots
+  pub row : Row s [] (row_in s)
+  pub slots : slots_at (s ++ []) (row_in s) ≡ (sheet_content s).slots
   pub values : values_at numbers (sheet_content s).slots ≡ true
   pub carried-inside : carried_at s ≤ length s
   pub carried : drop (carried_at s) s ≡ joined (sheet_content s).carried

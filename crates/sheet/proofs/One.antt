@@ -1,11 +1,12 @@
 -- Each public function of `sheet` has one answer, and leaves one content of each buffer.
+use Rattle.std.specs.Prelude.{Result}
 use mathlib.Core.Path.{◌≡◌, sym, ◌∙◌}
 use Prim.Native.Nat.{ℕ}
 use mathlib.Core.List.{List}
-use Rattle.format.specs.declared.NumberAnswer.{NumberAnswer}
-use Rattle.format.proofs.Given.{answer-same}
+use Rattle.format.specs.declared.Part.{Part}
+use Rattle.format.specs.declared.Reason.{Reason}
+use Rattle.format.proofs.Given.{given-same}
 use Rattle.sheet.specs.Scanning.{Scanned}
 
-pub scan-one : (sheet ats lens : List ℕ) (r r₂ : NumberAnswer) (ats' lens' ats₂ lens₂ : List ℕ) → Scanned sheet ats lens r ats' lens' → Scanned sheet ats lens r₂ ats₂ lens₂
-    → (r ≡ r₂) × (ats' ≡ ats₂) × (lens' ≡ lens₂)
-scan-one sheet ats lens r r₂ ats' lens' ats₂ lens₂ a b = (answer-same r r₂ (a.answered ∙ sym b.answered), a.ats-left ∙ sym b.ats-left, a.lens-left ∙ sym b.lens-left)
+pub scan-one : (sheet : List ℕ) (row : List Part) (r r₂ : Result ℕ Reason) (row' row₂ : List Part) → Scanned sheet row r row' → Scanned sheet row r₂ row₂ → (r ≡ r₂) × (row' ≡ row₂)
+scan-one sheet row r r₂ row' row₂ a b = (given-same r r₂ (a.answered ∙ sym b.answered), a.row-left ∙ sym b.row-left)

@@ -18,9 +18,10 @@ use Rattle.format.specs.Sheet.{Entry, heads, bodies, body_at, count_in, entries_
 use Rattle.format.proofs.Tests.{never}
 use Rattle.format.proofs.Strings.{nil-of}
 use Rattle.format.proofs.Sheets.{entry-count, body_is, sheet-right}
+use Rattle.format.specs.declared.Part.{Part}
 use Rattle.sheet.specs.declared.Head.{Head}
 use Rattle.sheet.specs.Heads.{HeadOf}
-use Rattle.sheet.specs.Scanning.{body_in, lengths_of, starts_of, end_of, lens_in, ats_in, carried_at}
+use Rattle.sheet.specs.Scanning.{body_in, lengths_of, row_of, end_of, row_in, carried_at}
 use Rattle.sheet.proofs.Heads.{least, offsets_right, numbers_rise, header-right, right-heads, right-body}
 
 -- ---- a head
@@ -198,38 +199,34 @@ judging-end {s} {i} {at} {set} {usage} j e =
 abbrev left : ℕ → List Entry → List ℕ
 left k rest = lengths_of (drop k numbers) rest
 
-pub record Filling (s : List ℕ) (i k at : ℕ) (ats lens : List ℕ) : Type 0 where
+pub record Filling (s : List ℕ) (i k at : ℕ) (row : List Part) : Type 0 where
   pub rest : List Entry
   pub walks : Walking s i at rest
   pub placed : k ≤ places
-  pub ats-long : length ats ≡ places
-  pub lens-long : length lens ≡ places
-  pub lens-are : take k lens ++ left k rest ≡ lens_in s
-  pub ats-are : take k ats ++ starts_of at (left k rest) ≡ ats_in s
+  pub long : length row ≡ places
+  pub row-is : take k row ++ row_of at (left k rest) ≡ row_in s
   pub end_is : end_of at (left k rest) ≡ carried_at s
 
-pub filling-start : (s ats lens : List ℕ) → right_sheet s ≡ true → length ats ≡ places → length lens ≡ places → Filling s 0 0 (body_in s) ats lens
-filling-start s ats lens e a l =
-    record { rest = entries_in s; walks = walking_start s e; placed = omega arith; ats-long = a; lens-long = l; lens-are = refl; ats-are = refl; end_is = refl }
+pub filling-start : (s : List ℕ) (row : List Part) → right_sheet s ≡ true → length row ≡ places → Filling s 0 0 (body_in s) row
+filling-start s row e l = record { rest = entries_in s; walks = walking_start s e; placed = omega arith; long = l; row-is = refl; end_is = refl }
 
--- one more of a list is stored
-stored_one : (l : List ℕ) (k x : ℕ) (r whole : List ℕ) → k < length l → take k l ++ x ∷ r ≡ whole → take (k + 1) (set l k x) ++ r ≡ whole
+-- one more part is stored
+stored_one : (l : List Part) (k : ℕ) (x : Part) (r whole : List Part) → k < length l → take k l ++ x ∷ r ≡ whole → take (k + 1) (set l k x) ++ r ≡ whole
 stored_one l k x r whole h e = rw (add-one, take-suc-set l k x h, append_snoc) e
 
-module _ {s : List ℕ} {i k at : ℕ} {ats lens : List ℕ} (f : Filling s i k at ats lens) (place : k < places) where
+module _ {s : List ℕ} {i k at : ℕ} {row : List Part} (f : Filling s i k at row) (place : k < places) where
   -- the next length is `len`, and these entries are left
   next : (j len : ℕ) (rest : List Entry) → Walking s j (at + len) rest → left k f.rest ≡ len ∷ left (k + 1) rest
-      → Filling s j (k + 1) (at + len) (set ats k at) (set lens k len)
-  unfolding starts_of end_of
+      → Filling s j (k + 1) (at + len) (set row k (record { at = at; len = len }))
+  unfolding row_of end_of
   next j len rest w e =
+      let p : Part = record { at = at; len = len } in
       record {
         rest = rest;
         walks = w;
         placed = omega arith;
-        ats-long = length-set ats k at ∙ f.ats-long;
-        lens-long = length-set lens k len ∙ f.lens-long;
-        lens-are = stored_one lens k len _ _ (omega (arith, f.lens-long)) (ap (λ (l : List ℕ). take k lens ++ l) (sym e) ∙ f.lens-are);
-        ats-are = stored_one ats k at _ _ (omega (arith, f.ats-long)) (ap (λ (l : List ℕ). take k ats ++ starts_of at l) (sym e) ∙ f.ats-are);
+        long = length-set row k p ∙ f.long;
+        row-is = stored_one row k p _ _ (omega (arith, f.long)) (ap (λ (l : List ℕ). take k row ++ row_of at l) (sym e) ∙ f.row-is);
         end_is = ap (end_of at) (sym e) ∙ f.end_is;
       }
 
@@ -237,11 +234,11 @@ module _ {s : List ℕ} {i k at : ℕ} {ats lens : List ℕ} (f : Filling s i k 
   here : drop k numbers ≡ get_or numbers k 0 ∷ drop (k + 1) numbers
   here = rw add-one (drop-cons numbers k 0 place)
 
-  passed : left k f.rest ≡ 0 ∷ left (k + 1) f.rest → Filling s i (k + 1) at (set ats k at) (set lens k 0)
-  passed e = rw add-zero at (next i 0 f.rest (rw add-zero f.walks) e)
+  passed : left k f.rest ≡ 0 ∷ left (k + 1) f.rest → Filling s i (k + 1) (at + 0) (set row k (record { at = at; len = 0 }))
+  passed e = next i 0 f.rest (rw add-zero f.walks) e
 
   -- no entry is left
-  pub filling-none : count_in s ≤ i → Filling s i (k + 1) at (set ats k at) (set lens k 0)
+  pub filling-none : count_in s ≤ i → Filling s i (k + 1) (at + 0) (set row k (record { at = at; len = 0 }))
   unfolding lengths_of
   filling-none e =
       let z = none_left s i at f.rest f.walks e in
@@ -252,22 +249,21 @@ module _ {s : List ℕ} {i k at : ℕ} {ats lens : List ℕ} (f : Filling s i k 
     first-left : Turned s i at f.rest r
     first-left = turned s i at f.rest r f.walks more h
 
-    pub filling-hit : r.number ≡ get_or numbers k 0 → Filling s (i + 1) (k + 1) (at + r.len) (set ats k at) (set lens k r.len)
+    pub filling-hit : r.number ≡ get_or numbers k 0 → Filling s (i + 1) (k + 1) (at + r.len) (set row k (record { at = at; len = r.len }))
     unfolding lengths_of
     filling-hit e =
         let t = first-left in
         next (i + 1) r.len t.behind t.on (ap₂ lengths_of here t.first ∙ rw (eq-eqb r.number (get_or numbers k 0) e, t.long))
 
-    pub filling-miss : (r.number ≡ get_or numbers k 0 → ⊥) → Filling s i (k + 1) at (set ats k at) (set lens k 0)
+    pub filling-miss : (r.number ≡ get_or numbers k 0 → ⊥) → Filling s i (k + 1) (at + 0) (set row k (record { at = at; len = 0 }))
     unfolding lengths_of
     filling-miss e =
         let z = first-left.first in
         passed (ap₂ lengths_of here z ∙ rw (ne_eqb r.number (get_or numbers k 0) e) (ap (λ (l : List Entry). 0 ∷ left (k + 1) l) (sym z)))
 
-pub filling-end : {s : List ℕ} {i k at : ℕ} {ats lens : List ℕ} → Filling s i k at ats lens → places ≤ k → (at ≡ carried_at s) × (ats ≡ ats_in s) × (lens ≡ lens_in s)
-unfolding lengths_of starts_of end_of
-filling-end {s} {i} {k} {at} {ats} {lens} f h =
+pub filling-end : {s : List ℕ} {i k at : ℕ} {row : List Part} → Filling s i k at row → places ≤ k → (at ≡ carried_at s) × (row ≡ row_in s)
+unfolding lengths_of row_of end_of
+filling-end {s} {i} {k} {at} {row} f h =
     let z : left k f.rest ≡ [] = ap (λ (ns : List ℕ). lengths_of ns f.rest) (drop_of_length-le numbers h) in
-    let a : take k ats ≡ ats = take_all k ats (omega (arith, f.ats-long)) in
-    let l : take k lens ≡ lens = take_all k lens (omega (arith, f.lens-long)) in
-    (rw z at f.end_is, rw (z, a, append-nil) at f.ats-are, rw (z, l, append-nil) at f.lens-are)
+    let a : take k row ≡ row = take_all k row (omega (arith, f.long)) in
+    (rw z at f.end_is, rw (z, a, append-nil) at f.row-is)

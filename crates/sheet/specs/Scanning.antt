@@ -1,10 +1,11 @@
 -- Where the elements stand in a sheet, and what judging one answers: document 01, "The sheet", with its refusals 8 and 9 in order.
-use Rattle.std.specs.Prelude.{◌≡◌, ℕ, ◌+◌, List, [], ◌∷◌, length, eqb, if◌then◌else◌}
+use Rattle.std.specs.Prelude.{◌≡◌, ℕ, ◌+◌, List, [], ◌∷◌, length, eqb, if◌then◌else◌, Result}
 use Rattle.format.specs.Answers.{Answer, need, in_order, afterwards}
 use Rattle.format.specs.Elements.{numbers}
-use Rattle.format.specs.Numbers.{answer_given}
+use Rattle.format.specs.Numbers.{given}
 use Rattle.format.specs.Sheet.{Entry, body_at, count_in, entries_in, right_sheet, good_values}
-use Rattle.format.specs.declared.NumberAnswer.{NumberAnswer}
+use Rattle.format.specs.declared.Part.{Part}
+use Rattle.format.specs.declared.Reason.{Reason}
 
 -- where the bytes of the first entry stand
 abbrev pub body_in : List ℕ → ℕ
@@ -18,9 +19,9 @@ lengths_of [] es = []
 lengths_of (n ∷ ns) [] = 0 ∷ lengths_of ns []
 lengths_of (n ∷ ns) (e ∷ es) = if eqb e.number n then length e.bytes ∷ lengths_of ns es else 0 ∷ lengths_of ns (e ∷ es)
 
-unfoldable pub starts_of : ℕ → List ℕ → List ℕ
-starts_of at [] = []
-starts_of at (len ∷ lens) = at ∷ starts_of (at + len) lens
+unfoldable pub row_of : ℕ → List ℕ → List Part
+row_of at [] = []
+row_of at (len ∷ lens) = record { at = at; len = len } ∷ row_of (at + len) lens
 
 unfoldable pub end_of : ℕ → List ℕ → ℕ
 end_of at [] = at
@@ -30,8 +31,8 @@ end_of at (len ∷ lens) = end_of (at + len) lens
 abbrev pub lens_in : List ℕ → List ℕ
 lens_in s = lengths_of numbers (entries_in s)
 
-abbrev pub ats_in : List ℕ → List ℕ
-ats_in s = starts_of (body_in s) (lens_in s)
+abbrev pub row_in : List ℕ → List Part
+row_in s = row_of (body_in s) (lens_in s)
 
 abbrev pub carried_at : List ℕ → ℕ
 carried_at s = end_of (body_in s) (lens_in s)
@@ -46,7 +47,6 @@ scanning s =
     (carried_at s)
 
 -- judging sheet s answered r, and left this row; at a refusal the one that was there
-pub record Scanned (s ats lens : List ℕ) (r : NumberAnswer) (ats' lens' : List ℕ) : Type 0 where
-  pub answered : answer_given r ≡ scanning s
-  pub ats-left : ats' ≡ afterwards (scanning s) (ats_in s) ats
-  pub lens-left : lens' ≡ afterwards (scanning s) (lens_in s) lens
+pub record Scanned (s : List ℕ) (row : List Part) (r : Result ℕ Reason) (row' : List Part) : Type 0 where
+  pub answered : given r ≡ scanning s
+  pub row-left : row' ≡ afterwards (scanning s) (row_in s) row

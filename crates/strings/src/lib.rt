@@ -9,37 +9,28 @@ ghost use Rattle.format.specs.Pieces.{Stored};
 pub fn word(low: u8, high: u8) -> usize
     ensures { (result ≡ word low high) × (result ≤ 65535) }
 {
-    low as usize + 256 * (high as usize)
+    usize::from(u16::from_le_bytes([low, high]))
 }
 
 // Is b one of the bytes from low to high?
 pub fn within(low: u8, high: u8, b: u8) -> bool
     ensures { result ≡ between low high b }
 {
-    if b < low {
-        return false;
-    }
-    b <= high
+    (low..=high).contains(&b)
 }
 
 // The byte of s at a place; a missing one is 00.
 pub fn byte_at(s: &[u8], at: usize) -> u8
     ensures { result ≡ get_or s.now at 0 }
 {
-    if at < s.len() { s[at] } else { 0 }
+    s.get(at).copied().unwrap_or(0)
 }
 
 // The XOR of the bytes.
 pub fn xor_of(bytes: &[u8]) -> u8
     ensures { result ≡ xor_all bytes.now }
 {
-    let mut x: u8 = 0;
-    let mut i = 0;
-    while i < bytes.len() {
-        x = x ^ bytes[i];
-        i += 1;
-    }
-    x
+    bytes.iter().fold(0, |x, b| x ^ *b)
 }
 
 // Copies `source` to the front of `target`, and leaves the rest as it is; answers how many bytes it copied.
@@ -66,9 +57,5 @@ pub fn put_bytes(out: &mut [u8], at: usize, piece: &[u8]) -> usize
 pub fn clear(out: &mut [u8])
     ensures { out.new ≡ replicate (length out.old) 0 }
 {
-    let mut i = 0;
-    while i < out.len() {
-        out[i] = 0;
-        i += 1;
-    }
+    out.fill(0);
 }

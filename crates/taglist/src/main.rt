@@ -9,7 +9,8 @@ ghost use Rattle.std.specs.Io.KnownBytes.{Consumes, IsAtEnd};
 use std::io;
 use std::io::{Read, Write};
 
-// Reads until the buffer is full or the input has ended; answers how many bytes it read.
+// Reads until the buffer is full or the input has ended; answers how many bytes it read. A turn takes what one read gives, and a read to the
+// end takes a Vec: so no method of the library.
 fn read_full<R: Read>(input: &mut R, buffer: &mut [u8]) -> io::Result<usize>
     ensures within { IfOk result (λ n. n ≤ length buffer.new) }
     ensures read { IfOk result (λ n. Consumes (R.remaining input.old) (R.remaining input.new) (take n buffer.new)) }

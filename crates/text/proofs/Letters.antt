@@ -1,67 +1,67 @@
 -- How the bytes of a text are taken, one after the other.
 use mathlib.Core.Path.{◌≡◌, refl, sym, ap, ◌∙◌}
 use mathlib.Core.Logic.{⊎_elim}
-use Prim.Native.Nat.{ℕ, suc, ◌+◌, ◌<◌}
+use Prim.Native.Nat.{ℕ, suc, ◌≤◌, ◌<◌}
 use native.Mathlib.Omega.{arith}
-use native.Mathlib.Numerals.{add-one}
 use mathlib.Core.Bool.{Bool, true, false, ◌&&◌}
 use mathlib.Core.List.{List, [], ◌∷◌}
+use borrow.Author.Tests.{le-leb, lt-leb}
 use lib.ListN.{length, drop, get_or, drop_of_length-le, get_or-eq_default}
 use lib.Seq.{drop-cons}
-use Rattle.format.specs.Text.{Range, inside, rows, nothing, after, rows_from}
+use Rattle.std.specs.Bool.{then_some}
+use Rattle.format.specs.Text.{Range, inside, tail, rows, nothing, after, rows_from}
 use Rattle.format.proofs.Tests.{never, le-or-lt}
 use Rattle.format.proofs.Text.{nothing-follows}
-use Rattle.text.specs.Letters.{Stands, Letter, Second}
-
-pub stands-behind : {s : List ℕ} {i j k : ℕ} → Stands s i [] j → Stands s j [] k → Stands s i [] k
-stands-behind p q = record { within = q.within; rest = p.rest ∙ q.rest }
-
-pub letter-some : {s : List ℕ} {i : ℕ} (n : ℕ) → Stands s i [] (i + suc n) → Letter s i (suc n)
-letter-some n p = record { none = λ h. absurd (omega arith); some = λ _. p }
-
-letter-none : {s : List ℕ} {i : ℕ} → rows_from [] (drop i s) ≡ false → Letter s i 0
-letter-none e = record { none = λ _. e; some = λ h. absurd (h refl) }
+use Rattle.text.specs.Letters.{Stands, Letter, behind, Second}
 
 -- ---- the first byte
 
 -- b leads a row
-pub stands-led : {s : List ℕ} {i b : ℕ} {due : List Range} → i < length s → b ≡ get_or s i 0 → after b rows ≡ due → Stands s i due (i + 1)
+pub stands-led : {s : List ℕ} {b : ℕ} {due : List Range} → 0 < length s → b ≡ get_or s 0 0 → after b rows ≡ due → Stands s due 1
 unfolding rows_from
-stands-led {s} {i} {b} {due} h at e =
-    let w : after (get_or s i 0) rows ≡ due = rw (← at) e in
+stands-led {s} {b} {due} h at e =
+    let w : after (get_or s 0 0) rows ≡ due = rw (← at) e in
     record {
       within = omega arith;
-      rest = rw add-one (ap (rows_from []) (drop-cons s i 0 h) ∙ ap (λ (d : List Range). rows_from d (drop (suc i) s)) w);
+      rest = ap (rows_from []) (drop-cons s 0 0 h) ∙ ap (λ (d : List Range). rows_from d (drop 1 s)) w;
     }
 
 -- or none
-pub stands-none : {s : List ℕ} {i b : ℕ} → i < length s → b ≡ get_or s i 0 → after b rows ≡ nothing → Letter s i 0
-stands-none {s} {i} h at e = letter-none ((stands-led h at e).rest ∙ nothing-follows (drop (i + 1) s))
+pub none-led : (s : List ℕ) {b : ℕ} → 0 < length s → b ≡ get_or s 0 0 → after b rows ≡ nothing → rows_from [] s ≡ false
+none-led s h at e = (stands-led h at e).rest ∙ nothing-follows (drop 1 s)
 
 -- ---- the others
 
--- r is due at i + n, and b stands there, or is 00 past the end; t says whether r has b
-module _ {s : List ℕ} {i : ℕ} {r : Range} {due : List Range} {b : ℕ} {t : Bool} (n : ℕ) (p : Stands s i (r ∷ due) (i + n)) (z : inside r 0 ≡ false) (at : b ≡ get_or s (i + n) 0) (is : t ≡ inside r b) where
-  judged : rows_from [] (drop i s) ≡ t && rows_from due (drop (suc (i + n)) s)
+-- r is due at n, and b stands there, or is 00 past the end; t says whether r has b
+module _ (s : List ℕ) {r : Range} {due : List Range} {b : ℕ} {t : Bool} (n : ℕ) (p : Stands s (r ∷ due) n) (z : inside r 0 ≡ false) (at : b ≡ get_or s n 0) (is : t ≡ inside r b) where
+  judged : rows_from [] s ≡ t && rows_from due (drop (suc n) s)
   unfolding rows_from
   judged =
       p.rest
       ∙ ⊎_elim (λ h. ap (rows_from (r ∷ due)) (drop_of_length-le s h) ∙ sym (rw (is, at ∙ get_or-eq_default s 0 h, z)))
-      (λ h. ap (rows_from (r ∷ due)) (drop-cons s (i + n) 0 h) ∙ rw (is, at))
-      (le-or-lt (i + n) (length s))
+      (λ h. ap (rows_from (r ∷ due)) (drop-cons s n 0 h) ∙ rw (is, at))
+      (le-or-lt n (length s))
 
-  pub stands_on : t ≡ true → Stands s i due (i + suc n)
+  pub stands_on : t ≡ true → Stands s due (suc n)
   stands_on e =
-      let k : i + suc n ≡ suc (i + n) = omega arith in
       record {
-        within = ⊎_elim (λ h. never (cc (get_or-eq_default s 0 h))) (λ h. omega arith) (le-or-lt (i + n) (length s));
-        rest = rw k (judged ∙ rw e);
+        within = ⊎_elim (λ h. never (cc (get_or-eq_default s 0 h))) (λ h. omega arith) (le-or-lt n (length s));
+        rest = judged ∙ rw e;
       }
 
-  pub stands-not : t ≡ false → Letter s i 0
-  stands-not e = letter-none (judged ∙ rw e)
+  pub stands-not : t ≡ false → rows_from [] s ≡ false
+  stands-not e = judged ∙ rw e
+
+-- b is the last of the letter
+pub letter-last : (s : List ℕ) {r : Range} {b : ℕ} (n : ℕ) → Stands s (r ∷ []) n → inside r 0 ≡ false → b ≡ get_or s n 0 → (t : Bool) → t ≡ inside r b
+    → Letter s (then_some t (suc n))
+letter-last s n p z at true is = (omega arith, stands_on s n p z at is refl)
+letter-last s n p z at false is = stands-not s n p z at is refl
 
 -- the second byte, by the row of the first
-pub second : {lead b : ℕ} {range : Range} {more : List Range} {r : Bool} → after lead rows ≡ range ∷ more → inside range 0 ≡ false → r ≡ inside range b
-    → Second lead more b r
-second {lead} {b} {range} row z is = record { range = range; row = row; zero-not = z; is = is }
+module _ {lead b : ℕ} {range : Range} {r : Bool} where
+  pub second-three : lead ≤ 0xEF → after lead rows ≡ range ∷ tail ∷ [] → inside range 0 ≡ false → r ≡ inside range b → Second lead (behind lead) b r
+  second-three l row z is = rw (le-leb lead 0xEF l) (record { range = range; row = row; zero-not = z; is = is })
+
+  pub second-four : 0xEF < lead → after lead rows ≡ range ∷ tail ∷ tail ∷ [] → inside range 0 ≡ false → r ≡ inside range b → Second lead (behind lead) b r
+  second-four l row z is = rw (lt-leb lead 0xEF l) (record { range = range; row = row; zero-not = z; is = is })

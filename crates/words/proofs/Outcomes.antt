@@ -5,10 +5,12 @@ use mathlib.Core.Bool.{Bool, true, false}
 use mathlib.Core.List.{List, [], ◌∷◌}
 use lib.ListN.{length}
 use lib.Dec.{leb}
+use Rattle.std.specs.Prelude.{Ok, Err}
 use borrow.Author.Tests.{le-leb, lt-leb, leb-true, leb-false}
 use Rattle.format.specs.Answers.{Answer, got, refused, plain, Step, need, in_order}
 use Rattle.format.specs.Bytes.{filled}
-use Rattle.format.specs.declared.NumberAnswer.TheVariants.{Done, Refused}
+use Rattle.format.specs.Numbers.{reason_number}
+use Rattle.format.specs.declared.Reason.{Reason}
 use Rattle.format.proofs.Answers.{next-ok, next-no, next-inv, none-ok, afterwards-got, afterwards-refused}
 use Rattle.format.proofs.Tests.{never}
 use Rattle.words.specs.Calls.{filling, Fills}
@@ -56,10 +58,10 @@ module _ (k : ℕ) (good : Bool) (room : ℕ) (out : List ℕ) where
 -- ---- the contract, once the answer is known
 
 module _ (steps : List Step) (out buffer : List ℕ) where
-  pub fills-refused : {k : ℕ} → in_order steps (length out) ≡ refused (plain k) → Fills (filling steps out buffer) (Refused k) buffer
+  pub fills-refused : {r : Reason} → in_order steps (length out) ≡ refused (plain (reason_number r)) → Fills (filling steps out buffer) (Err r) buffer
   unfolding filling
-  fills-refused {k} e = record { answered = sym e; left = sym (afterwards-refused _ (plain k) (filled out buffer) buffer e) }
+  fills-refused {r} e = record { answered = sym e; left = sym (afterwards-refused _ (plain (reason_number r)) (filled out buffer) buffer e) }
 
-  pub fills-done : {n : ℕ} (after : List ℕ) → in_order steps (length out) ≡ got n → after ≡ filled out buffer → Fills (filling steps out buffer) (Done n) after
+  pub fills-done : {n : ℕ} (after : List ℕ) → in_order steps (length out) ≡ got n → after ≡ filled out buffer → Fills (filling steps out buffer) (Ok n) after
   unfolding filling
   fills-done {n} after e f = record { answered = sym e; left = f ∙ sym (afterwards-got _ n (filled out buffer) buffer e) }

@@ -8,14 +8,15 @@ use mathlib.Core.Bool.{true, false}
 use mathlib.Core.List.{List}
 use lib.ListN.{length, take, drop, get_or}
 use lib.Seq.{take-append_seam}
+use Rattle.std.specs.Prelude.{Result}
 use borrow.Author.Tests.{lt-leb, leb-false}
 use Rattle.format.specs.Answers.{Answer, Refusal, plain, got, refused, Step}
 use Rattle.format.specs.Bytes.{all, filled}
 use Rattle.format.specs.Numbers.{Gives, gives, one_gives, Each, none, result_of}
 use Rattle.format.specs.Demands.{Exact}
-use Rattle.format.specs.declared.NumberAnswer.{NumberAnswer}
+use Rattle.format.specs.declared.Reason.{Reason}
 use Rattle.format.proofs.Answers.{worked, afterwards-got, afterwards-refused}
-use Rattle.format.proofs.Given.{answer-same}
+use Rattle.format.proofs.Given.{given-same}
 use Rattle.format.proofs.Promises.{exactly}
 use Rattle.format.proofs.Refusals.{test, listed, zero-done}
 use Rattle.format.proofs.Tests.{never}
@@ -33,8 +34,8 @@ use Rattle.words.proofs.Outcomes.{answer-bad, answer-short, answer-good, good-go
 -- ==== Demand 1: one answer and one content of the buffer, on every input; a refusal changes nothing and gives only its number
 
 -- two outcomes that fit a contract are equal
-pub fills_one : (o : Outcome) (r r' : NumberAnswer) (b b' : List ℕ) → Fills o r b → Fills o r' b' → (r ≡ r') × (b ≡ b')
-fills_one o r r' b b' x y = (answer-same r r' (x.answered ∙ sym y.answered), x.left ∙ sym y.left)
+pub fills_one : (o : Outcome) (r r' : Result ℕ Reason) (b b' : List ℕ) → Fills o r b → Fills o r' b' → (r ≡ r') × (b ≡ b')
+fills_one o r r' b b' x y = (given-same r r' (x.answered ∙ sym y.answered), x.left ∙ sym y.left)
 
 pub c-fills-one : (o : Outcome) (used r r' : ℕ) (b b' : List ℕ) (u u' : ℕ) → FillsC o used r b u → FillsC o used r' b' u' → (r ≡ r') × (b ≡ b') × (u ≡ u')
 c-fills-one o used r r' b b' u u' x y = (x.answered ∙ sym y.answered, x.left ∙ sym y.left, x.result ∙ sym y.result)

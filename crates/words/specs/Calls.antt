@@ -1,10 +1,10 @@
 -- The two calls: document 02, E2. For each, its refusals in the paper's order, and its outcome: the answer, and what the lent buffer holds
 -- afterwards. And what the contracts say of that.
-use Rattle.std.specs.Prelude.{◌≡◌, ℕ, List, [], ◌∷◌, length, leb}
+use Rattle.std.specs.Prelude.{◌≡◌, ℕ, List, [], ◌∷◌, length, leb, Result}
 use Rattle.format.specs.Answers.{Answer, Step, need, in_order, afterwards}
 use Rattle.format.specs.Bytes.{all, filled}
-use Rattle.format.specs.Numbers.{Gives, alone, answer_given, number_of, result_of}
-use Rattle.format.specs.declared.NumberAnswer.{NumberAnswer}
+use Rattle.format.specs.Numbers.{Gives, alone, given, number_of, result_of}
+use Rattle.format.specs.declared.Reason.{Reason}
 use Rattle.words.specs.Code40.{is646, meaningful, text_of, words_of}
 
 pub record Outcome : Type 0 where
@@ -48,8 +48,8 @@ encoding s buffer = filling (encode_steps (length buffer) s) (words_of s) buffer
 -- ---- the contracts
 
 -- a call answered r and left `after` in the buffer, as the outcome says
-pub record Fills (o : Outcome) (r : NumberAnswer) (after : List ℕ) : Type 0 where
-  pub answered : answer_given r ≡ o.answer
+pub record Fills (o : Outcome) (r : Result ℕ Reason) (after : List ℕ) : Type 0 where
+  pub answered : given r ≡ o.answer
   pub left : after ≡ o.buffer
 
 -- and an exported call: `r` is the number returned, `used` the result before, `used'` the result afterwards

@@ -1,33 +1,31 @@
 -- `urp_edit` takes the answer apart: the number and the results are what the call's contract says.
 use mathlib.Core.Path.{sym, ap, ◌∙◌}
-use Rattle.format.specs.Numbers.{edit_given, refusal_of, number_of}
-use Rattle.capi.proofs.Given.{result-got, result-refused, place-got, number-refused, place-refused}
+use Rattle.format.specs.Numbers.{told, number_of, place_of}
+use Rattle.capi.proofs.Given.{result-got, result-refused, place-got}
 use Rattle.capi.proofs.urp_edit.Goals as goal
 
 pub returns-in_default : goal.returns-in_default
 returns-in_default c =
-    let e = c.edit-answer.ensures in
-    let given = ap edit_given c.in_default.is in
-    let told = sym e.answered ∙ given in
-    let out = c.edit_refusal.ensures ∙ ap refusal_of given in
+    let e = c.edit-edited.ensures in
+    let refused = sym e.answered ∙ ap told c.in_default.is in
     record {
-      answered = number-refused _ _ _ _ told out c.tell.ensures.0;
+      answered = c.tell.ensures.0 ∙ ap number_of e.answered;
       left = e.left;
       handed = e.handed;
-      result = result-refused _ _ _ _ told;
-      old-length = result-refused _ _ _ _ told;
-      at_place = place-refused _ _ _ _ _ told out c.tell.ensures.1;
+      result = result-refused _ _ _ _ refused;
+      old-length = result-refused _ _ _ _ refused;
+      at_place = c.tell.ensures.1 ∙ ap (λ m. place_of m c.args.place.now) e.answered;
     }
 
 pub returns : goal.returns
 returns c =
-    let e = c.edit-answer.ensures in
-    let told = sym e.answered ∙ ap edit_given c.in-Done.is in
+    let e = c.edit-edited.ensures in
+    let got = sym e.answered ∙ ap told c.in-Ok.is in
     record {
-      answered = ap number_of (sym told);
+      answered = ap number_of (sym got);
       left = e.left;
       handed = e.handed;
-      result = result-got _ _ _ _ told;
-      old-length = result-got _ _ _ _ told;
-      at_place = place-got _ _ _ told;
+      result = result-got _ _ _ _ got;
+      old-length = result-got _ _ _ _ got;
+      at_place = place-got _ _ _ got;
     }

@@ -3,7 +3,7 @@ use Rattle.capi.proofs.Given.{filled-refused, filled-done}
 use Rattle.capi.proofs.urp_text_to_words.Goals as goal
 
 pub returns-in_default : goal.returns-in_default
-returns-in_default c = filled-refused _ _ _ _ c.text_to_words-answer.ensures _ c.in_default.is c.answer_number.ensures
+returns-in_default c = filled-refused _ _ _ _ c.text_to_words-answer.ensures _ c.in_default.is c.number_of.ensures
 
 pub returns : goal.returns
-returns c = filled-done _ _ _ _ c.text_to_words-answer.ensures c.in-Done.is
+returns c = filled-done _ _ _ _ c.text_to_words-answer.ensures c.in-Ok.is

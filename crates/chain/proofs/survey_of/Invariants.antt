@@ -9,13 +9,10 @@ use Rattle.chain.proofs.Turns.{SoFar}
 use Rattle.chain.proofs.survey_of.Given as goal
 
 abbrev pub invariant-loop-k : goal.invariant-loop-k
-invariant-loop-k l = (l.number ≡ 0) × (bit_xor l.x (xor_all (drop l.k l.block)) ≡ xor_all (drop 1 l.block)) × (l.k ≤ length l.block)
-
-abbrev pub decreases-loop-k : goal.decreases-loop-k
-decreases-loop-k l = l.n - l.k
+invariant-loop-k l = (bit_xor l.x (xor_all (drop l.k l.block)) ≡ xor_all (drop 1 l.block)) × (l.k ≤ length l.block)
 
 abbrev pub invariant-chain : goal.invariant-chain
-invariant-chain l = (l.number ≡ 0) × SoFar l.tag l.at l.library l.count l.size
+invariant-chain l = SoFar l.tag l.at l.library l.count l.size
 
 abbrev pub decreases-chain : goal.decreases-chain
 decreases-chain l = length l.tag - l.at

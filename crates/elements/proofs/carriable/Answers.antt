@@ -5,21 +5,12 @@ use Prim.Native.Nat.{◌-◌, ◌≤◌}
 use native.Mathlib.Omega.{arith}
 use lib.ListN.{length, drop, length-drop}
 use lib.Seq.{take_all}
-use borrow.Author.Tests.{eq-eqb, ne_eqb, lt-leb}
+use borrow.Author.Tests.{ne_eqb}
 use Rattle.format.specs.Bytes.{xor_all}
 use Rattle.format.specs.Chain.{id_of, well_formed, carriable}
-use Rattle.format.proofs.Tests.{and_no}
 use Rattle.chain.proofs.Formed.{formed-well}
 use Rattle.elements.proofs.carriable.Goals.{then-id-le100, else-id-le100}
 use Rattle.elements.proofs.carriable.Goals as goal
-
-pub returns-then-block-lt3 : goal.returns-then-block-lt3
-unfolding carriable well_formed
-returns-then-block-lt3 c = rw (lt-leb 3 _ c.if-block-lt3.true)
-
-pub returns-then-library : goal.returns-then-library
-unfolding carriable
-returns-then-library c = sym (and_no (well_formed c.args.block.now) _ (rw (eq-eqb _ 1 (sym c.id_of-id.ensures ∙ c.if-library.true))))
 
 pub returns : goal.returns
 unfolding carriable

@@ -1,24 +1,15 @@
--- The invariant: the bytes before `i` pass the test. The measure is what is left.
-use mathlib.Core.Path.{sym, ◌∙◌}
+-- The library's `all` is the definition's.
+use borrow.Author.Rules.{rules}
+use borrow.Author.Tests.{tests}
+use mathlib.Core.Path.{◌∙◌}
+use Rattle.std.proofs.lemmas.Iterator.{YieldsList-from_slice}
+use Rattle.std.proofs.lemmas.Iterator.Search.{all_from_yields_List}
 use Rattle.format.specs.Fields.{capital}
-use Rattle.format.proofs.Passing.{passing-start, passing-on, passing-not, passing-all}
+use Rattle.format.proofs.Lists.{list_all-all}
 use Rattle.fields.proofs.capitals.Goals as goal
-
-pub loop-i-init : goal.loop-i-init
-loop-i-init c = passing-start capital c.args.s.now
-
-pub returns-then-not-within : goal.returns-then-not-within
-unfolding capital
-returns-then-not-within c =
-    passing-not capital c.args.s.now c.loop-i.i c.loop-i.invariant c.loop-i-test.true
-    (sym c.within.ensures ∙ c.if-not-within.true)
-
-pub loop-i-preserved : goal.loop-i-preserved
-unfolding capital
-loop-i-preserved c =
-    passing-on capital c.args.s.now c.loop-i.i c.loop-i.invariant c.loop-i-test.true
-    (sym c.within.ensures ∙ c.if-not-within.false)
 
 pub returns : goal.returns
 unfolding capital
-returns c = passing-all capital c.args.s.now c.loop-i.i c.loop-i.invariant c.loop-i-test.false
+returns c =
+    all_from_yields_List capital _ _ _ c.all.ensures.ran (YieldsList-from_slice c.args.s.now cc) (λ x b q k. search (rules, tests))
+    ∙ list_all-all capital c.args.s.now

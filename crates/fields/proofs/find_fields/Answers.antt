@@ -1,12 +1,13 @@
--- The invariant: the first k lengths are in place. The measure is how many places are left.
+-- The invariant: the lengths so far are in place.
+use native.Mathlib.Omega.{arith}
 use Rattle.fields.proofs.Loops.{finding-start, finding-on, finding-end}
 use Rattle.fields.proofs.find_fields.Goals as goal
 
-pub loop-k-init : goal.loop-k-init
-loop-k-init c = finding-start c.args.s.now c.args.lens.now
+pub loop-len-init : goal.loop-len-init
+loop-len-init c = finding-start c.args.s.now c.args.lens.now
 
-pub loop-k-preserved : goal.loop-k-preserved
-loop-k-preserved c = finding-on c.loop-k.invariant _ _ c.up_to-field.ensures c.from-behind.ensures c.loop-k-test.true
+pub loop-len-preserved : goal.loop-len-preserved
+loop-len-preserved c = finding-on c.loop-len.invariant _ _ c.up_to-field.ensures c.from-rest.ensures (omega arith)
 
 pub returns : goal.returns
-returns c = finding-end c.loop-k.invariant c.loop-k-test.false
+returns c = finding-end c.loop-len.invariant (omega arith)

@@ -1,11 +1,7 @@
--- The invariant: the first k lengths are in place. The measure is how many places are left.
-use Prim.Native.Nat.{◌-◌}
+-- The invariant: the lengths so far are in place.
 use lib.ListN.{length}
 use Rattle.fields.proofs.Loops.{Finding}
 use Rattle.fields.proofs.find_fields.Given as goal
 
-abbrev pub invariant-loop-k : goal.invariant-loop-k
-invariant-loop-k l = Finding l.s (length l.initial.lens) l.lens l.rest l.k
-
-abbrev pub decreases-loop-k : goal.decreases-loop-k
-decreases-loop-k l = length l.initial.lens - l.k
+abbrev pub invariant-loop-len : goal.invariant-loop-len
+invariant-loop-len l = Finding l.s (length l.initial.lens) l.lens l.rest l.len-index

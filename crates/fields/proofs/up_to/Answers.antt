@@ -1,24 +1,29 @@
--- The invariant: none of the bytes before `i` is `b`. The measure is what is left.
-use mathlib.Core.Path.{refl, ◌∙◌}
-use borrow.Author.Tests.{ne_eqb, eq-eqb}
-use Rattle.fields.proofs.Loops.{seeking-on, seeking-found, seeking-over}
-use Rattle.fields.proofs.up_to.Goals.{then-loop-i-test+else-s-i, else-loop-i-test}
+-- The front ends where the library finds the first b.
+use borrow.Author.Rules.{rules}
+use borrow.Author.Tests.{eq-eqb, ne_eqb}
+use mathlib.Core.Path.{◌≡◌, refl, ap}
+use Prim.Native.Nat.{ℕ, zero, suc, ◌<◌}
+use native.Mathlib.Omega.{arith}
+use mathlib.Core.List.{List, [], ◌∷◌}
+use lib.ListN.{take, length, get_or}
+use Rattle.format.specs.Bytes.{up_to}
 use Rattle.fields.proofs.up_to.Goals as goal
 
-pub loop-i-init : goal.loop-i-init
-loop-i-init c = refl
+up-to-first : (b : ℕ) (s : List ℕ) (i : ℕ) → i < length s → get_or s i 0 ≡ b → ((k : ℕ) → k < i → get_or s k 0 ≡ b → ⊥) → take i s ≡ up_to b s
+unfolding up_to
+up-to-first b [] i h e before = absurd (omega arith)
+up-to-first b (x ∷ s) zero h e before = rw (eq-eqb x b e)
+up-to-first b (x ∷ s) (suc i) h e before =
+    rw (ne_eqb x b (before 0 (omega arith)), up-to-first b s i (omega arith) e (λ k l. before (suc k) (omega arith)))
 
-pub loop-i-preserved : goal.loop-i-preserved
-loop-i-preserved c =
-    let a = c.args in
-    seeking-on a.b a.s.now c.loop-i.i c.loop-i.invariant c.loop-i-test.true (ne_eqb _ _ c.if-s-i.true)
+up-to-none : (b : ℕ) (s : List ℕ) → ((k : ℕ) → k < length s → get_or s k 0 ≡ b → ⊥) → s ≡ up_to b s
+unfolding up_to
+up-to-none b [] none = refl
+up-to-none b (x ∷ s) none =
+    rw (ne_eqb x b (none 0 (omega arith))) (ap (λ (l : List ℕ). x ∷ l) (up-to-none b s (λ k h. none (suc k) (omega arith))))
 
-pub returns : goal.returns
-returns c =
-    let a = c.args in
-    let i = c.loop-i.i in
-    c.front.ensures
-    ∙ elim c.loop-i-test.branch [
-      | then-loop-i-test+else-s-i w ↦ seeking-found a.b a.s.now i c.loop-i.invariant w.loop-i-test.true (eq-eqb _ _ w.if-s-i.false)
-      | else-loop-i-test w ↦ seeking-over a.b a.s.now i c.loop-i.invariant w.loop-i-test.false
-    ]
+pub returns-in-Some : goal.returns-in-Some
+returns-in-Some c = up-to-first c.args.b c.args.s.now c.in-Some.first (search rules) (search rules) (search rules)
+
+pub returns-in-None : goal.returns-in-None
+returns-in-None c = up-to-none c.args.b c.args.s.now (search rules)

@@ -11,7 +11,7 @@ use Rattle.joining.proofs.put_set.Goals as goal
 pub put_digits-second-requires : goal.put_digits-second-requires
 put_digits-second-requires c =
     let w = c.width-count in
-    omega (arith, c.requires, set-end-length c.args.total c.args.ordinal w.result w.ensures c.if-total-eq0.false, c.put_dot-first.ensures.0)
+    omega (arith, c.requires, set-end-length c.args.total c.args.ordinal w.result w.ensures c.if-total-eq0.false, c.put_bytes-first.ensures.0)
 
 pub put_digits-requires : goal.put_digits-requires
 put_digits-requires c =
@@ -20,7 +20,7 @@ put_digits-requires c =
       arith,
       c.requires,
       set-end-length c.args.total c.args.ordinal w.result w.ensures c.if-total-eq0.false,
-      c.put_dot-first.ensures.0,
+      c.put_bytes-first.ensures.0,
       c.put_digits-second.ensures.0,
       digits-length w.result c.args.total,
     )
@@ -33,4 +33,4 @@ returns c =
     let t = digits w.result a.total in
     stored-as o _ _ _ a.at _ (sym (some-set a.total a.ordinal w.result w.ensures c.if-total-eq0.false))
     (stored-then o _ _ ((dot ∷ []) ++ t) (digits w.result a.ordinal) a.at _ _ (omega arith)
-    (stored-then o _ _ (dot ∷ []) t a.at _ _ (omega arith) c.put_dot-first.ensures c.put_digits-second.ensures) c.put_digits.ensures)
+    (stored-then o _ _ (dot ∷ []) t a.at _ _ (omega arith) c.put_bytes-first.ensures c.put_digits-second.ensures) c.put_digits.ensures)

@@ -15,7 +15,7 @@ returns c =
     let p1 = c.put_digit-thousands in
     let p2 = c.put_digit-hundreds in
     let p3 = c.put_digit-tens in
-    let p4 = c.put_byte in
+    let p4 = c.put_bytes in
     stored-as o _ _ _ a.at _ (sym (decimal-leading n c.requires.1))
     (stored-then o _ _ ((leading 1000 n ++ leading 100 n) ++ leading 10 n) (last n) a.at _ _ (omega arith)
     (stored-then o _ _ (leading 1000 n ++ leading 100 n) (leading 10 n) a.at _ _ (omega arith)

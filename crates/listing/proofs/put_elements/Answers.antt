@@ -1,5 +1,5 @@
 -- `put_elements` stores the count of entries, which stands in the sheet's first two bytes, and the entries' lines.
-use mathlib.Core.Path.{refl, sym, ap}
+use mathlib.Core.Path.{sym, ap}
 use mathlib.Core.List.{◌++◌}
 use Prim.Native.Nat.{ℕ, ◌<◌}
 use native.Mathlib.Omega.{arith}
@@ -27,7 +27,7 @@ unfolding word
 put_lines-requires c =
     let n : ℕ = count_in c.args.sheet.now in
     let few : n < 10000 = omega (arith, body-length c.args.sheet.now c.requires.0) in
-    (c.requires.0, refl, omega (arith, c.put_counted-lines.ensures.0, c.put_counted-lines.auto.out, counted-length elements_word n few))
+    (c.requires.0, c.word-count.ensures.0, omega (arith, c.put_counted-lines.ensures.0, c.put_counted-lines.auto.out, counted-length elements_word c.word-count.result (omega (arith, c.word-count.ensures.0, few))))
 
 pub returns : goal.returns
 unfolding word elements_text
@@ -39,4 +39,4 @@ returns c =
     let p1 = c.put_counted-lines in
     let p2 = c.put_lines in
     stored-as o _ _ _ 0 _ (ap (λ (n : ℕ). counted elements_word n ++ lines) (sym (entry-count t)))
-    (stored-then o _ _ (counted elements_word (count_in t)) lines 0 _ _ (omega arith) p1.ensures p2.ensures)
+    (stored-then o _ _ (counted elements_word (count_in t)) lines 0 _ _ (omega arith) (rw c.word-count.ensures.0 at p1.ensures) p2.ensures)

@@ -8,7 +8,7 @@ use Rattle.listing.proofs.put_placed.Goals as goal
 
 pub put_counted-requires : goal.put_counted-requires
 put_counted-requires c =
-    (omega (arith, decimal-length c.args.number c.requires.1, c.put_decimal-blank.ensures.0, c.put_word-at.ensures.0), c.requires.2)
+    (omega (arith, decimal-length c.args.number c.requires.1, c.put_decimal-blank.ensures.0, c.put_bytes-at.ensures.0), c.requires.2)
 
 pub returns : goal.returns
 unfolding placed_text
@@ -18,4 +18,4 @@ returns c =
     let blank = counted (0x20 ∷ []) a.place in
     stored-as o _ _ _ 0 _ (append_assoc refused_word (decimal a.number) blank)
     (stored-then o _ _ (refused_word ++ decimal a.number) blank 0 _ _ (omega arith)
-    (stored-then o _ _ refused_word (decimal a.number) 0 _ _ (omega arith) c.put_word-at.ensures c.put_decimal-blank.ensures) c.put_counted.ensures)
+    (stored-then o _ _ refused_word (decimal a.number) 0 _ _ (omega arith) c.put_bytes-at.ensures c.put_decimal-blank.ensures) c.put_counted.ensures)

@@ -1,18 +1,15 @@
--- `pages::any_locked` meets its contract. The loop's invariant: the lock bytes that are left decide, with those before them, whether one is locked.
-use mathlib.Core.Path.{refl}
+-- `pages::any_locked` meets its contract: the library's fold is the definition's.
+use mathlib.Core.Path.{◌∙◌}
+use mathlib.Core.Bool.{false, ◌||◌}
+use lib.Dec.{eqb}
 use borrow.Author.Rules.{rules}
-use Rattle.pages.proofs.Comparing.{any-turned, any-ended}
+use borrow.Author.Tests.{tests}
+use Rattle.std.proofs.lemmas.Iterator.{YieldsList-from_slice}
+use Rattle.std.proofs.lemmas.Iterator.Consumers.{fold_from_yields_List}
+use Rattle.pages.proofs.Comparing.{fold-locked}
 use Rattle.pages.proofs.any_locked.Goals as goal
-
-pub loop-i-init : goal.loop-i-init
-loop-i-init c = (search rules, refl)
-
-pub loop-i-preserved : goal.loop-i-preserved
-loop-i-preserved c =
-    let l = c.loop-i in
-    (search rules, any-turned c.args.locks.now l.i l.some _ l.invariant.1 c.loop-i-test.true)
 
 pub returns : goal.returns
 returns c =
-    let l = c.loop-i in
-    any-ended c.args.locks.now l.i l.some _ l.invariant.1 c.loop-i-test.false
+    fold_from_yields_List _ (λ b x. b || eqb x 1) false _ c.fold.ensures.ran (YieldsList-from_slice c.args.locks.now (cc)) (λ b x r f k. search (rules, tests))
+    ∙ fold-locked c.args.locks.now

@@ -12,4 +12,4 @@ returns c =
     let a = c.args in
     ap₂ (λ (x y : ℕ). not (eqb x y)) c.word.ensures c.word-2.ensures
     ∙ differs-by-number a.tag.now a.image.now a.i c.requires.1 c.requires.0
-    (bytes-all a.tag.now (λ i h. (c.shared_slice_known-1.given i).fits)) (bytes-all a.image.now (λ i h. (c.shared_slice_known-2-1.given i).fits))
+    (bytes-all a.tag.now (λ i h. (c.type_inv.tag i).fits)) (bytes-all a.image.now (λ i h. (c.type_inv.image i).fits))

@@ -8,7 +8,7 @@ use Rattle.pages.proofs.store.Goals.{then-page_differs, else-page_differs}
 use Rattle.pages.proofs.store.Goals as goal
 
 pub loop-i-init : goal.loop-i-init
-loop-i-init c = (omega arith, no-pages page_size c.args.image.now c.args.tag.now)
+loop-i-init c = no-pages page_size c.args.image.now c.args.tag.now
 
 pub overflow_add-n : goal.overflow_add-n
 overflow_add-n c =
@@ -19,20 +19,15 @@ pub loop-i-preserved : goal.loop-i-preserved
 loop-i-preserved c =
     let a = c.args in
     let l = c.loop-i in
-    let d = c.page_differs.ensures in (
-      omega arith,
-      elim c.if-page_differs.branch [
-        | then-page_differs w ↦ rw w.n-is (one-stored page_size a.image.now a.tag.now l.tag l.n l.i l.invariant.1 (omega arith) (omega arith) c.if-page_differs.tag (sym d ∙ w.if-page_differs.true) (w.tag-is ∙ w.store_page.ensures))
-        | else-page_differs w ↦ rw (w.tag-is, w.n-is) (one-there page_size a.image.now a.tag.now l.tag l.n l.i l.invariant.1 (omega arith) (omega arith) (sym d ∙ w.if-page_differs.false))
-      ],
-    )
-
-pub shape_of-tag : goal.shape_of-tag
-shape_of-tag c = c.loop-i.invariant.1.long
+    let d = c.page_differs.ensures in
+    elim c.if-page_differs.branch [
+      | then-page_differs w ↦ rw w.n-is (one-stored page_size a.image.now a.tag.now l.tag l.n l.i l.invariant (omega arith) (omega arith) c.if-page_differs.tag (sym d ∙ w.if-page_differs.true) (w.tag-is ∙ w.store_page.ensures))
+      | else-page_differs w ↦ rw (w.tag-is, w.n-is) (one-there page_size a.image.now a.tag.now l.tag l.n l.i l.invariant (omega arith) (omega arith) (sym d ∙ w.if-page_differs.false))
+    ]
 
 pub returns : goal.returns
 returns c =
     let a = c.args in
     let l = c.loop-i in
-    let e : l.i ≡ c.shared_pages-pages.result = omega arith in
-    all-stored page_size a.image.now a.tag.now l.tag l.n l.i l.invariant.1 (e ∙ c.shared_pages-pages.ensures.pages-are)
+    let e : l.i ≡ c.shared_pages-i-end.result = omega arith in
+    all-stored page_size a.image.now a.tag.now l.tag l.n l.i l.invariant (e ∙ c.shared_pages-i-end.ensures.pages-are)

@@ -1,32 +1,19 @@
--- `rows::piece` meets its contract: the part lies before the source's end, or behind it.
-use Prim.Native.Nat.{◌+◌, ◌-◌, ◌≤◌}
+-- Behind the source's end the part stands in what was made.
+use mathlib.Core.Path.{◌≡◌, sym, ap, ap₂, ◌∙◌}
+use Prim.Native.Nat.{ℕ, ◌+◌, ◌-◌, ◌≤◌}
 use native.Mathlib.Omega.{arith}
-use lib.ListN.{length}
-use Rattle.rows.proofs.Standing.{in_source, in-made, source-part, made-part}
-use Rattle.rows.proofs.piece.Goals.{Else-at-n, Then-at-n}
+use mathlib.Core.List.{List, ◌++◌}
+use lib.ListN.{length, take, drop}
+use lib.Seq.{drop-append-add}
+use Rattle.format.specs.Bytes.{part}
 use Rattle.rows.proofs.piece.Goals as goal
 
--- the part's end
-before : (c : Then-at-n) → let a = c.args in a.at + a.len ≤ length a.src.now
-before c = let a = c.args in in_source a.src.now a.made.now a.at a.len c.requires c.if-at-n.true
+made-part : (src made : List ℕ) (at len : ℕ) → length src ≤ at → let n = at - length src in take (n + len - n) (drop n made) ≡ part at len (src ++ made)
+made-part src made at len h =
+    let n : ℕ = at - length src in
+    let l : n + len - n ≡ len = omega arith in
+    let e : length src + n ≡ at = omega arith in
+    ap₂ take l (sym (drop-append-add src made n) ∙ ap (λ (m : ℕ). drop m (src ++ made)) e)
 
-behind : (c : Else-at-n) → let a = c.args in a.at - length a.src.now + a.len ≤ length a.made.now
-behind c = let a = c.args in in-made a.src.now a.made.now a.at a.len c.requires c.if-at-n.false
-
-pub overflow_add-end : goal.overflow_add-end
-overflow_add-end c = record { fits = omega (arith, before c, c.well_formed.0.0) }
-
-pub slice_bounds-result-end : goal.slice_bounds-result-end
-slice_bounds-result-end c = before c
-
-pub returns-then-at-n : goal.returns-then-at-n
-returns-then-at-n c = let a = c.args in source-part a.src.now a.made.now a.at a.len c.requires c.if-at-n.true
-
-pub overflow_add-stop : goal.overflow_add-stop
-overflow_add-stop c = record { fits = omega (arith, behind c, c.well_formed.1.0.0) }
-
-pub slice_bounds-result-end-2 : goal.slice_bounds-result-end-2
-slice_bounds-result-end-2 c = behind c
-
-pub returns : goal.returns
-returns c = let a = c.args in made-part a.src.now a.made.now a.at a.len c.requires c.if-at-n.false
+pub returns-else-at-n : goal.returns-else-at-n
+returns-else-at-n c = made-part c.args.src.now c.args.made.now c.args.element.at c.args.element.len c.if-at-n.false

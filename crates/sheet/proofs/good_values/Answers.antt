@@ -1,5 +1,5 @@
--- The invariant: the entries that come decide, with what was seen of 4 and 5. The measure is how many come.
-use mathlib.Core.Path.{◌≡◌, sym, ap, ◌∙◌}
+-- The invariant: the entries that come decide, with what was seen of 4 and 5.
+use mathlib.Core.Path.{◌≡◌, sym, ap, ap₂, ◌∙◌}
 use Prim.Native.Nat.{ℕ, ◌+◌, ◌-◌}
 use native.Mathlib.Omega.{arith}
 use Rattle.format.specs.Bytes.{part}
@@ -17,16 +17,18 @@ pub slice_bounds-formed-end : goal.slice_bounds-formed-end
 slice_bounds-formed-end c = value-inside c.loop-i.invariant (omega arith) c.head_at-head.ensures
 
 -- what is judged is the entry that comes
-judged : (s : List ℕ) (at : ℕ) (r : Head) → form r.number (part at (at + r.len - at) s) ≡ formed (entry_of s at r)
-judged s at r = let m : at + r.len - at ≡ r.len = omega arith in ap (λ (k : ℕ). form r.number (part at k s)) m
+judged : (s : List ℕ) (at : ℕ) (r : Head) (n : ℕ) → n ≡ r.number → form n (part at (at + r.len - at) s) ≡ formed (entry_of s at r)
+judged s at r n e = let m : at + r.len - at ≡ r.len = omega arith in ap₂ form e (ap (λ (k : ℕ). part at k s) m)
 
 pub returns-then-not-formed : goal.returns-then-not-formed
 returns-then-not-formed c =
-    judging-not c.loop-i.invariant (omega arith) c.head_at-head.ensures (sym (judged c.args.sheet.now c.loop-i.at c.head_at-head.result) ∙ sym c.formed.ensures ∙ c.if-not-formed.true)
+    let h = c.head_at-head in
+    judging-not c.loop-i.invariant (omega arith) h.ensures (sym (judged c.args.sheet.now c.loop-i.at h.result _ c.from.ensures) ∙ sym c.formed.ensures ∙ c.if-not-formed.true)
 
 pub loop-i-preserved : goal.loop-i-preserved
 loop-i-preserved c =
-    judging-on c.loop-i.invariant (omega arith) c.head_at-head.ensures (sym (judged c.args.sheet.now c.loop-i.at c.head_at-head.result) ∙ sym c.formed.ensures ∙ c.if-not-formed.false)
+    let h = c.head_at-head in
+    judging-on c.loop-i.invariant (omega arith) h.ensures (sym (judged c.args.sheet.now c.loop-i.at h.result _ c.from.ensures) ∙ sym c.formed.ensures ∙ c.if-not-formed.false)
 
 pub returns-then-set : goal.returns-then-set
 returns-then-set c = rw c.if-set.true at (judging-end c.loop-i.invariant (omega arith))

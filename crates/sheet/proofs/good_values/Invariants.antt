@@ -1,10 +1,6 @@
--- The invariant: the entries that come decide, with what was seen of 4 and 5. The measure is how many come.
-use Prim.Native.Nat.{◌-◌}
+-- The invariant: the entries that come decide, with what was seen of 4 and 5.
 use Rattle.sheet.proofs.Walking.{Judging}
 use Rattle.sheet.proofs.good_values.Given as goal
 
 abbrev pub invariant-loop-i : goal.invariant-loop-i
 invariant-loop-i l = Judging l.sheet l.i l.at l.set l.usage
-
-abbrev pub decreases-loop-i : goal.decreases-loop-i
-decreases-loop-i l = l.count - l.i

@@ -1,10 +1,11 @@
--- The invariant: the heads that come decide whether the sheet is right. The measure is how many come.
+-- The invariant: the heads that come decide whether the sheet is right.
+use mathlib.Core.Path.{◌≡◌, sym, ◌∙◌}
+use Prim.Native.Nat.{ℕ}
 use native.Mathlib.Omega.{arith}
-use borrow.Author.Tests.{eq-eqb, ne_eqb}
 use Rattle.format.proofs.Tests.{bytes-all}
-use Rattle.sheet.proofs.Heads.{least, short-wrong}
+use Rattle.sheet.proofs.Heads.{least, least-is, short-wrong}
 use Rattle.sheet.proofs.Walking.{checking-start, checking-low, checking-offset, checking-on, checking-end}
-use Rattle.sheet.proofs.right.Goals.{then-head, else-head}
+use Rattle.sheet.proofs.right.Goals.{then-head-least-via-then-head-least, then-head-least-via-else-head-least+then-head-at}
 use Rattle.sheet.proofs.right.Goals as goal
 
 pub returns-then-sheet-lt2 : goal.returns-then-sheet-lt2
@@ -20,20 +21,17 @@ loop-i-init c =
 
 pub returns-then-head-least : goal.returns-then-head-least
 returns-then-head-least c =
-    checking-low c.loop-i.invariant (omega arith) c.head_at-head.ensures c.if-head-least.true
-
-pub returns-then-head-at : goal.returns-then-head-at
-returns-then-head-at c =
-    checking-offset c.loop-i.invariant (omega arith) c.head_at-head.ensures c.if-head-at.true
+    let h = c.head_at-head.ensures in
+    elim c.then-head-least.branch [
+      | then-head-least-via-then-head-least w ↦ checking-low c.loop-i.invariant (omega arith) h w.if-head-least.true
+      | then-head-least-via-else-head-least+then-head-at w ↦ checking-offset c.loop-i.invariant (omega arith) h w.if-head-at.true
+    ]
 
 pub loop-i-preserved : goal.loop-i-preserved
-unfolding least
 loop-i-preserved c =
-    let on = checking-on c.loop-i.invariant (omega arith) c.head_at-head.ensures c.if-head-least.false c.if-head-at.false in
-    elim c.if-head.branch [
-      | then-head w ↦ rw w.least-is (rw (eq-eqb _ 255 w.if-head.true) at on)
-      | else-head w ↦ rw w.least-is (rw (ne_eqb _ 255 w.if-head.false) at on)
-    ]
+    let n : ℕ = c.head_at-head.result.number in
+    let next : c.saturating_add-least.result ≡ least n = c.saturating_add-least.ensures ∙ sym (least-is n (omega arith)) in
+    rw next (checking-on c.loop-i.invariant (omega arith) c.head_at-head.ensures c.if-head-least.false c.if-head-at.false)
 
 pub returns : goal.returns
 returns c = checking-end c.loop-i.invariant (omega arith)

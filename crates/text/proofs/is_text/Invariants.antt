@@ -1,12 +1,12 @@
--- The invariant: the letters up to `i` stand. The measure is what is left.
-use Prim.Native.Nat.{◌-◌}
+-- The invariant: the letters so far stand, so what is left decides. The measure is what is left.
+use mathlib.Core.Path.{◌≡◌}
 use mathlib.Core.List.{[]}
 use lib.ListN.{length}
-use Rattle.text.specs.Letters.{Stands}
+use Rattle.format.specs.Text.{rows_from}
 use Rattle.text.proofs.is_text.Given as goal
 
-abbrev pub invariant-loop-i : goal.invariant-loop-i
-invariant-loop-i l = Stands l.s 0 [] l.i
+abbrev pub invariant-loop-rest : goal.invariant-loop-rest
+invariant-loop-rest l = rows_from [] l.rest ≡ rows_from [] l.s
 
-abbrev pub decreases-loop-i : goal.decreases-loop-i
-decreases-loop-i l = length l.s - l.i
+abbrev pub decreases-loop-rest : goal.decreases-loop-rest
+decreases-loop-rest l = length l.rest

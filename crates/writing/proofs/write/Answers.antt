@@ -1,36 +1,30 @@
 -- `writing::write` judges size and lock map, and takes a draft of one length or another.
-use mathlib.Core.Path.{◌≡◌, sym, ap, ◌∙◌}
-use Prim.Native.Nat.{◌≤◌}
-use mathlib.Core.Bool.{true, ◌&&◌}
+use mathlib.Core.Path.{sym}
+use native.Mathlib.Omega.{arith}
+use Prim.Native.Nat.{ℕ, ◌≤◌}
+use mathlib.Core.List.{List}
 use lib.ListN.{length}
-use Rattle.format.specs.Pages.{page_size, good_size, lock_map}
-use Rattle.format.specs.Numbers.{number_of, stage_given}
+use Rattle.std.proofs.lemmas.Result.{err_from_is_err_and}
+use Rattle.format.specs.Pages.{page_size}
 use Rattle.format.proofs.Tests.{and_l}
 use Rattle.format.proofs.Answers.{need-inv}
 use Rattle.format.proofs.Layouts.{size-most}
-use Rattle.image.proofs.Laws.{lent-fresh}
+use Rattle.pages.specs.Storing.{Sized}
 use Rattle.writing.proofs.Writer.{size-writes}
-use Rattle.writing.proofs.write.Goals.{In-Passed}
 use Rattle.writing.proofs.write.Goals as goal
 
-pub returns-in_default : goal.returns-in_default
-returns-in_default c =
+pub returns-in_err-size_stage : goal.returns-in_err-size_stage
+returns-in_err-size_stage c =
     let a = c.args in
-    let told = ap stage_given c.in_default.is in
-    size-writes a.sheet.now a.tag.now a.locks.now _ _ (sym c.size_stage-sized.ensures ∙ told) (c.stage_number.ensures ∙ ap number_of told)
+    let p = err_from_is_err_and c.from_residual.result c.from_residual.ensures.1 in
+    rw (p.1, p.2) (size-writes a.sheet.now a.tag.now a.locks.now _ (sym c.in_err-size_stage.ensures))
+
+pub write_by-requires : goal.write_by-requires
+write_by-requires c = (need-inv 1 _ tt (sym c.in_ok-size_stage.ensures), c.if-tag-le256.true, omega arith)
 
 -- 1 is passed, so the tag has at most 2,048 bytes
-passed : (k : In-Passed) → let a = k.args in good_size page_size (length a.tag.now) && lock_map page_size a.locks.now (length a.tag.now) ≡ true
-passed k = need-inv 1 _ tt (sym k.size_stage-sized.ensures ∙ ap stage_given k.in-Passed.is)
+most : (t locks : List ℕ) → Sized t locks → length t ≤ 2048
+most t locks s = size-most page_size (length t) (and_l _ _ s)
 
-most : (k : In-Passed) → length k.args.tag.now ≤ 2048
-most k = size-most page_size _ (and_l _ _ (passed k))
-
-pub write_on-requires : goal.write_on-requires
-write_on-requires c = (lent-fresh _ 256 c.if-n-le256.true, passed (goal.at.write_on-requires c).In-Passed)
-
-pub slice_bounds-draft-end-2 : goal.slice_bounds-draft-end-2
-slice_bounds-draft-end-2 c = most (goal.at.slice_bounds-draft-end-2 c).In-Passed
-
-pub write_on-requires-2 : goal.write_on-requires-2
-write_on-requires-2 c = let k = (goal.at.write_on-requires-2 c).In-Passed in (lent-fresh _ 2048 (most k), passed k)
+pub write_by-requires-else-tag-le256 : goal.write_by-requires-else-tag-le256
+write_by-requires-else-tag-le256 c = let s = need-inv 1 _ tt (sym c.in_ok-size_stage.ensures) in (s, most _ _ s, omega arith)

@@ -4,14 +4,14 @@ use mathlib.Core.Path.{◌≡◌, ap₂}
 use Prim.Native.Nat.{ℕ, ◌+◌, ◌-◌, ◌*◌, ◌/◌, ◌≤◌, ◌<◌}
 use native.Mathlib.Omega.{arith}
 use mathlib.Core.List.{List, [], ◌∷◌, ◌++◌}
-use lib.ListN.{length, get_or, set, length-set}
+use lib.ListN.{length, get_or, set}
 use borrow.Author.Tests.{le-leb, lt-leb}
 use Rattle.format.specs.Bytes.{pad_with, pad}
 use Rattle.format.specs.Fields.{marker, long, item_field}
 use Rattle.format.specs.Layout.{first_byte}
 use Rattle.format.specs.Pieces.{Stored}
-use Rattle.image.specs.Laying.{Blank, On}
-use Rattle.image.proofs.Drafts.{start, put, put_byte, gap, ends}
+use Rattle.image.specs.Laying.{Blank}
+use Rattle.image.proofs.Drafts.{On, start, put, put_byte, gap, ends}
 use Rattle.image.proofs.basic.put_front.Goals as goal
 
 module _ (d item info : List ℕ) (usage : ℕ) (blank : Blank 0 d) (room : 19 ≤ length d) where
@@ -44,22 +44,10 @@ module _ (d item info : List ℕ) (usage : ℕ) (blank : Blank 0 d) (room : 19 �
   unmarked : (d' : List ℕ) (r : ℕ) → length item ≤ 16 → Stored d₃ 3 item r d' → Ended d'
   unmarked d' r h e = ended item d' r (rw (lt-leb 17 (length item) (omega arith))) h (put begun item d' r (omega (arith, e.0)) e)
 
-pub bounds-draft-1 : goal.bounds-draft-1
-bounds-draft-1 c = simp length-set (omega arith)
-
-pub bounds-draft-2 : goal.bounds-draft-2
-bounds-draft-2 c = simp length-set (omega arith)
-
-pub bounds-draft-3 : goal.bounds-draft-3
-bounds-draft-3 c = simp length-set (omega arith)
-
 pub returns-then-item-gt16 : goal.returns-then-item-gt16
 returns-then-item-gt16 c =
     let a = c.args in marked a.draft.now a.item.now a.set.now a.usage c.requires.0 c.requires.1 c.if-item-gt16.true
 
-pub put_bytes-requires : goal.put_bytes-requires
-put_bytes-requires c = simp length-set (omega arith)
-
-pub returns : goal.returns
-returns c =
+pub returns-else-item-gt16 : goal.returns-else-item-gt16
+returns-else-item-gt16 c =
     let a = c.args in unmarked a.draft.now a.item.now a.set.now a.usage c.requires.0 c.requires.1 _ _ c.if-item-gt16.false c.put_bytes.ensures

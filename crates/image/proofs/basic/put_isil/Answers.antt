@@ -1,5 +1,5 @@
 -- `image::basic::put_isil` meets its contract: two bytes, and the unit behind them.
-use mathlib.Core.Path.{◌≡◌, sym, ap, ap₂, ◌∙◌}
+use mathlib.Core.Path.{◌≡◌, sym, ap, ◌∙◌}
 use Prim.Native.Nat.{ℕ, ◌+◌, ◌-◌, ◌≤◌}
 use native.Mathlib.Omega.{arith}
 use mathlib.Core.List.{List, [], ◌∷◌}
@@ -7,10 +7,10 @@ use lib.ListN.{length, take, drop, get_or, set, length-set, length-drop}
 use lib.Seq.{take_all}
 use Rattle.format.specs.Fields.{packed}
 use Rattle.format.specs.Pieces.{Stored}
-use Rattle.image.specs.Laying.{IsilFits, On}
-use Rattle.image.proofs.Drafts.{start, put, put_byte, ends}
+use Rattle.image.specs.Laying.{IsilFits}
+use Rattle.image.proofs.Drafts.{On, start, put, put_byte, ends}
 use Rattle.image.proofs.OwnerForms.{Prefixed, prefixed-facts, high-isil, one-capital, held-short, held_two}
-use Rattle.image.proofs.basic.put_isil.Goals.{Joined-second-eq45, then-second-eq45, else-second-eq45}
+use Rattle.image.proofs.basic.put_isil.Goals.{Joined-owner-eq45, then-owner-eq45, else-owner-eq45}
 use Rattle.image.proofs.basic.put_isil.Goals as goal
 
 sides : {o d : List ℕ} → IsilFits o d → Prefixed o
@@ -39,35 +39,31 @@ module _ {o d : List ℕ} (p : IsilFits o d) (a b k : ℕ) (packs : packed o ≡
 pub bounds-owner-1 : goal.bounds-owner-1
 bounds-owner-1 c = omega (arith, (prefixed-facts (sides c.requires)).0)
 
-pub bounds-owner-0 : goal.bounds-owner-0
-bounds-owner-0 c = omega (arith, (prefixed-facts (sides c.requires)).0)
-
-pub bounds-draft-22 : goal.bounds-draft-22
-bounds-draft-22 c = simp length-set (omega arith)
+pub bounds-owner-1-else-owner-eq45 : goal.bounds-owner-1-else-owner-eq45
+bounds-owner-1-else-owner-eq45 c = omega (arith, (prefixed-facts (sides c.requires)).0)
 
 -- the code finds b and k
-found : (c : Joined-second-eq45) → let o = c.args.owner.now in packed o ≡ get_or o 0 0 ∷ c.if-second-eq45.second ∷ drop c.if-second-eq45.from o
+found : (c : Joined-owner-eq45) → let o = c.args.owner.now in packed o ≡ get_or o 0 0 ∷ c.if-owner-eq45.second.0 ∷ drop c.if-owner-eq45.second.1 o
 found c =
     let p = c.requires in
-    let o = c.args.owner.now in
-    elim c.if-second-eq45.branch [
-      | then-second-eq45 w ↦ (one-capital (sides p) w.if-second-eq45.true).packs ∙ ap₂ (λ (b k : ℕ). get_or o 0 0 ∷ b ∷ drop k o) (sym w.second-is) (sym w.from-is)
-      | else-second-eq45 w ↦ (held_two _ (sides p) w.if-second-eq45.false p.held).packs ∙ ap₂ (λ (b k : ℕ). get_or o 0 0 ∷ b ∷ drop k o) (sym w.second-is) (sym w.from-is)
+    elim c.if-owner-eq45.branch [
+      | then-owner-eq45 w ↦ rw w.second-is (one-capital (sides p) w.if-owner-eq45.true).packs
+      | else-owner-eq45 w ↦ rw w.second-is (held_two _ (sides p) w.if-owner-eq45.false p.held).packs
     ]
 
-inside : (c : Joined-second-eq45) → c.if-second-eq45.from ≤ length c.args.owner.now
-inside c = let l = (prefixed-facts (sides c.requires)).0 in elim c.if-second-eq45.branch [ then-second-eq45 w ↦ omega (arith, w.from-is) | else-second-eq45 w ↦ omega (arith, w.from-is) ]
+inside : (c : Joined-owner-eq45) → c.if-owner-eq45.second.1 ≤ length c.args.owner.now
+inside c = let l = (prefixed-facts (sides c.requires)).0 in elim c.if-owner-eq45.branch [ then-owner-eq45 w ↦ rw w.second-is (omega arith) | else-owner-eq45 w ↦ rw w.second-is (omega arith) ]
 
 pub slice_bounds-put_bytes-count : goal.slice_bounds-put_bytes-count
-slice_bounds-put_bytes-count c = inside (goal.at.slice_bounds-put_bytes-count c).Joined-second-eq45
+slice_bounds-put_bytes-count c = inside (goal.at.slice_bounds-put_bytes-count c).Joined-owner-eq45
 
 pub slice_bounds-put_bytes-start : goal.slice_bounds-put_bytes-start
-slice_bounds-put_bytes-start c = inside (goal.at.slice_bounds-put_bytes-start c).Joined-second-eq45
+slice_bounds-put_bytes-start c = inside (goal.at.slice_bounds-put_bytes-start c).Joined-owner-eq45
 
 pub put_bytes-requires : goal.put_bytes-requires
-put_bytes-requires c = let j = (goal.at.put_bytes-requires c).Joined-second-eq45 in simp length-set (fits j.requires _ _ _ (found j))
+put_bytes-requires c = let j = (goal.at.put_bytes-requires c).Joined-owner-eq45 in simp length-set (fits j.requires _ _ _ (found j))
 
 pub returns : goal.returns
 returns c =
-    let j = (goal.at.returns c).Joined-second-eq45 in
+    let j = (goal.at.returns c).Joined-owner-eq45 in
     ended c.requires _ _ _ (found j) _ _ c.put_bytes.ensures

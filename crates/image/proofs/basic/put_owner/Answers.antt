@@ -3,7 +3,7 @@ use Rattle.std.specs.Prelude.{if◌then◌else◌}
 use mathlib.Core.Path.{◌≡◌, sym, ap, ◌∙◌}
 use Prim.Native.Nat.{ℕ, ◌+◌, ◌-◌, ◌≤◌}
 use native.Mathlib.Omega.{arith}
-use mathlib.Core.Bool.{Bool, true, false, ◌||◌}
+use mathlib.Core.Bool.{Bool, true, false, not, ◌||◌}
 use mathlib.Core.List.{List, [], ◌∷◌}
 use lib.ListN.{length, set}
 use Rattle.format.specs.Bytes.{is_empty, pad_with, pad}
@@ -12,10 +12,9 @@ use Rattle.format.specs.Layout.{owner_width}
 use Rattle.format.specs.Pieces.{Stored}
 use Rattle.format.proofs.Tests.{not_t, not_f, or-false}
 use Rattle.format.proofs.Strings.{nil-of, not-empty}
-use Rattle.image.specs.Laying.{OwnerFits, On}
-use Rattle.image.proofs.Drafts.{start, put, put_byte, gap, ends}
+use Rattle.image.specs.Laying.{OwnerFits}
+use Rattle.image.proofs.Drafts.{On, start, put, put_byte, gap, ends}
 use Rattle.image.proofs.OwnerForms.{low-alternate, alternate-packed, held-short}
-use Rattle.image.proofs.basic.put_owner.Goals.{Else-owner-eq0}
 use Rattle.image.proofs.basic.put_owner.Goals as goal
 
 module _ {o d : List ℕ} (p : OwnerFits o d) where
@@ -65,28 +64,27 @@ module _ {o d : List ℕ} (p : OwnerFits o d) where
 pub returns-then-behind : goal.returns-then-behind
 returns-then-behind c = marked c.requires.0 (not_t _ (sym c.requires.1 ∙ c.if-behind.true))
 
-pub returns-then-owner-eq0 : goal.returns-then-owner-eq0
-returns-then-owner-eq0 c = none c.requires.0 c.if-owner-eq0.true
+pub returns-in-empty : goal.returns-in-empty
+returns-in-empty c = none c.requires.0 (omega arith)
 
 -- block 1 does not hold the owner
-basic : (c : Else-owner-eq0) → let a = c.args in is_empty a.owner.now || basic_owner (owner_width (length a.draft.now)) a.owner.now ≡ true
-basic c = not_f _ (sym c.requires.1 ∙ c.if-behind.false)
+basic : (o d : List ℕ) (behind : Bool) → behind ≡ not (is_empty o || basic_owner (owner_width (length d)) o) → behind ≡ false → is_empty o || basic_owner (owner_width (length d)) o ≡ true
+basic o d behind e f = not_f _ (sym e ∙ f)
 
 pub put_bytes-requires : goal.put_bytes-requires
 put_bytes-requires c =
-    let e = (goal.at.put_bytes-requires c).Else-owner-eq0 in
-    fits c.requires.0 c.if-owner-eq0.false (basic e) (low-alternate _ c.requires.0.good c.if-owner-eq0.false c.if-owner-lt4.true)
+    let some = λ (z : length c.args.owner.now ≡ 0). let f : ⊥ = omega arith in f in
+    fits c.requires.0 some (basic _ _ _ c.requires.1 c.if-behind.false) (low-alternate _ c.requires.0.good some (omega arith))
 
-pub returns-then-owner-lt4 : goal.returns-then-owner-lt4
-returns-then-owner-lt4 c =
-    let e = (goal.at.returns-then-owner-lt4 c).Else-owner-eq0 in
-    other c.requires.0 c.if-owner-eq0.false (basic e) (low-alternate _ c.requires.0.good c.if-owner-eq0.false c.if-owner-lt4.true) _ _ c.put_bytes.ensures
+pub returns-in-0-to-3 : goal.returns-in-0-to-3
+returns-in-0-to-3 c =
+    let some = λ (z : length c.args.owner.now ≡ 0). let f : ⊥ = omega arith in f in
+    other c.requires.0 some (basic _ _ _ c.requires.1 c.if-behind.false) (low-alternate _ c.requires.0.good some (omega arith)) _ _ c.put_bytes.ensures
 
 pub put_isil-requires : goal.put_isil-requires
 put_isil-requires c =
-    let e = (goal.at.put_isil-requires c).Else-owner-eq0 in
     let p = c.requires.0 in
-    record { field = p; high = c.if-owner-lt4.false; held = held p c.if-owner-eq0.false (basic e) }
+    record { field = p; high = omega arith; held = held p (λ z. omega arith) (basic _ _ _ c.requires.1 c.if-behind.false) }
 
-pub returns : goal.returns
-returns c = let e = (goal.at.returns c).Else-owner-eq0 in isil c.requires.0 c.if-owner-eq0.false (basic e) _ c.put_isil.ensures
+pub returns-in_default : goal.returns-in_default
+returns-in_default c = isil c.requires.0 (λ z. omega arith) (basic _ _ _ c.requires.1 c.if-behind.false) _ c.put_isil.ensures

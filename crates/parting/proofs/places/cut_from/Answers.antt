@@ -1,30 +1,44 @@
 -- The first dot ends the identifier; a second one is refused.
-use mathlib.Core.Path.{◌≡◌, ◌∙◌}
-use Prim.Native.Nat.{◌+◌}
-use lib.ListN.{length, drop}
-use Rattle.format.specs.Bytes.{up_to}
+use mathlib.Core.Path.{refl, sym, ◌∙◌}
+use Prim.Native.Nat.{ℕ}
+use native.Mathlib.Omega.{arith}
+use mathlib.Core.List.{List}
+use borrow.Author.Rules.{rules}
+use lib.ListN.{drop, length-drop}
+use Rattle.format.proofs.Strings.{up-to-length}
 use Rattle.identifier.specs.Parts.{dot}
+use Rattle.parting.proofs.Seeking.{dot-some, dot-none}
 use Rattle.parting.proofs.Cutting.{cut-alone, cut-one, cut-two}
-use Rattle.parting.proofs.places.cut_from.Goals.{After-dot_from-end}
 use Rattle.parting.proofs.places.cut_from.Goals as goal
 
--- what was skipped makes no difference
-first : (c : After-dot_from-end)
-    → let a = c.args in
-    c.dot_from-end.result ≡ a.item + length (up_to dot (drop a.item a.text.now))
-first c = c.dot_from-end.ensures ∙ c.skip_dotless.ensures.first
+pub returns-in_default : goal.returns-in_default
+returns-in_default c =
+    let s : List ℕ = c.args.text.now in
+    let k : ℕ = c.skip_dotless.result in
+    let none = dot-none s k (sym c.in_default.ensures) in
+    let skipped = c.skip_dotless.ensures in
+    cut-alone s c.args.isil c.args.item _ c.requires (omega (arith, none, skipped.inside, skipped.first, up-to-length dot (drop k s), length-drop k s)) (omega arith)
 
-pub returns-then-dot_from-text : goal.returns-then-dot_from-text
-returns-then-dot_from-text c =
-    let k = (goal.at.returns-then-dot_from-text c).After-dot_from-end in
-    cut-two k.args.text.now k.args.item k.dot_from-end.result k.requires (first k) c.dot_from.result c.if-end-text.true c.dot_from.ensures c.if-dot_from-text.true
+pub overflow_add-end : goal.overflow_add-end
+overflow_add-end c =
+    let some = dot-some c.args.text.now c.skip_dotless.result (sym c.in-Some.ensures) in
+    let l = some.1 in
+    search rules
 
-pub returns-else-dot_from-text : goal.returns-else-dot_from-text
-returns-else-dot_from-text c =
-    let k = (goal.at.returns-else-dot_from-text c).After-dot_from-end in
-    cut-one k.args.text.now k.args.item k.dot_from-end.result k.requires (first k) c.dot_from.result c.if-end-text.true c.dot_from.ensures c.if-dot_from-text.false
+pub dot_from-requires-2 : goal.dot_from-requires-2
+dot_from-requires-2 c =
+    let some = dot-some c.args.text.now c.skip_dotless.result (sym c.in-Some.ensures) in
+    omega (arith, some.1)
 
-pub returns-else-end-text : goal.returns-else-end-text
-returns-else-end-text c =
-    let k = (goal.at.returns-else-end-text c).After-dot_from-end in
-    cut-alone k.args.text.now k.args.item k.dot_from-end.result k.requires (first k) c.if-end-text.false
+pub returns-in-Some-dot_from : goal.returns-in-Some-dot_from
+returns-in-Some-dot_from c =
+    let s : List ℕ = c.args.text.now in
+    let some = dot-some s c.skip_dotless.result (sym c.in-Some.ensures) in
+    let more = dot-some s _ (sym c.in-Some-dot_from.ensures) in
+    cut-two s c.args.isil c.args.item _ c.requires (some.0 ∙ c.skip_dotless.ensures.first) _ some.1 more.0 more.1
+
+pub returns-in-None : goal.returns-in-None
+returns-in-None c =
+    let s : List ℕ = c.args.text.now in
+    let some = dot-some s c.skip_dotless.result (sym c.in-Some.ensures) in
+    cut-one s c.args.isil c.args.item _ c.requires (some.0 ∙ c.skip_dotless.ensures.first) _ some.1 refl (dot-none s _ (sym c.in-None.ensures))

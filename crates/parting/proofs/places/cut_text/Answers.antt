@@ -1,15 +1,17 @@
 -- With an ISIL the identifier begins behind the first dot, without one it begins the text.
-use mathlib.Core.Path.{sym, ap, ◌∙◌}
-use Prim.Native.Nat.{◌<◌}
+use Rattle.std.specs.Prelude.{Some, Err}
+use mathlib.Core.Path.{◌≡◌, refl, sym, ap, ◌∙◌}
 use native.Mathlib.Omega.{arith}
 use mathlib.Core.Bool.{Bool}
 use borrow.Author.Rules.{rules}
 use lib.ListN.{length}
 use Rattle.format.proofs.Strings.{up-to-length}
+use Rattle.format.specs.Numbers.{given}
+use Rattle.format.specs.declared.Reason.TheVariants as reason
 use Rattle.identifier.specs.Parts.{dot}
-use Rattle.parting.specs.Places.{cut_in}
+use Rattle.parting.specs.Places.{cut_in, dot_at}
+use Rattle.parting.proofs.Seeking.{dot-some, dot-none}
 use Rattle.parting.proofs.Cutting.{cut-whole, cut-led, cut-none}
-use Rattle.parting.proofs.places.cut_text.Goals.{Else-first-text}
 use Rattle.parting.proofs.places.cut_text.Goals as goal
 
 pub returns-then-not-leads : goal.returns-then-not-leads
@@ -17,24 +19,29 @@ returns-then-not-leads c =
     let a = c.args in
     c.cut_from.ensures ∙ cut-whole a.text.now ∙ sym (ap (λ (b : Bool). cut_in b a.text.now) c.if-not-leads.true)
 
-pub returns-then-first-text : goal.returns-then-first-text
-returns-then-first-text c =
+pub returns-in_err-isil : goal.returns-in_err-isil
+returns-in_err-isil c =
     let a = c.args in
-    cut-none a.text.now c.dot_from-first.result c.dot_from-first.ensures c.if-first-text.true
+    let none = dot-none a.text.now 0 (search rules) in
+    let told : c.from_residual.result ≡ Err reason.Parts = search rules in
+    ap given told ∙ cut-none a.text.now (length a.text.now) (omega (arith, none, up-to-length dot a.text.now)) refl
     ∙ sym (ap (λ (b : Bool). cut_in b a.text.now) c.if-not-leads.false)
 
--- a dot that is not the text's end stands before it
-before-end : (c : Else-first-text) → c.dot_from-first.result < length c.args.text.now
-before-end c = omega (arith, c.if-first-text.false, c.dot_from-first.ensures, up-to-length dot c.args.text.now)
-
-pub overflow_add-first : goal.overflow_add-first
-overflow_add-first c = let l = before-end c in search rules
+pub overflow_add-isil : goal.overflow_add-isil
+overflow_add-isil c =
+    let e : dot_at c.args.text.now 0 ≡ Some c.in_ok-isil.isil = search rules in
+    let l = (dot-some c.args.text.now 0 e).1 in
+    search rules
 
 pub cut_from-requires-2 : goal.cut_from-requires-2
-cut_from-requires-2 c = omega (arith, before-end c)
+cut_from-requires-2 c =
+    let e : dot_at c.args.text.now 0 ≡ Some c.in_ok-isil.isil = search rules in
+    omega (arith, dot-some c.args.text.now 0 e)
 
 pub returns : goal.returns
 returns c =
     let a = c.args in
-    c.cut_from-2.ensures ∙ cut-led a.text.now c.dot_from-first.result c.dot_from-first.ensures c.if-first-text.false
+    let e : dot_at a.text.now 0 ≡ Some c.in_ok-isil.isil = search rules in
+    let some = dot-some a.text.now 0 e in
+    c.cut_from-2.ensures ∙ cut-led a.text.now c.in_ok-isil.isil some.0 (λ z. omega (arith, some.1))
     ∙ sym (ap (λ (b : Bool). cut_in b a.text.now) c.if-not-leads.false)

@@ -1,18 +1,32 @@
--- The dot is found where the loop ends; a turn passes a byte that is no dot.
-use Rattle.parting.proofs.Seeking.{skips-one, found, found_none}
+-- The library finds the first dot.
+use mathlib.Core.Path.{◌≡◌, ap, ◌∙◌}
+use Prim.Native.Nat.{ℕ, ◌+◌, ◌-◌, ◌<◌}
+use native.Mathlib.Omega.{arith}
+use borrow.Author.Rules.{rules}
+use mathlib.Core.List.{List}
+use Rattle.std.proofs.Common.{None}
+use Rattle.std.proofs.lemmas.List.{take_rest}
+use lib.ListN.{length, take, drop, length-drop}
+use Rattle.format.specs.Bytes.{up_to}
+use Rattle.identifier.specs.Parts.{dot}
+use Rattle.parting.proofs.Seeking.{first-dot, no-dot, some-dot, none-dot}
 use Rattle.parting.proofs.places.dot_from.Goals as goal
 
-pub returns-then-text-i-eq46 : goal.returns-then-text-i-eq46
-returns-then-text-i-eq46 c =
-    let a = c.args in
-    found a.text.now a.at c.loop-i.i c.loop-i.invariant c.loop-i-test.true c.if-text-i-eq46.true
+abbrev rest : List ℕ → ℕ → List ℕ
+rest s at = take (length s - at) (drop at s)
 
-pub loop-i-preserved : goal.loop-i-preserved
-loop-i-preserved c =
-    let a = c.args in
-    skips-one a.text.now a.at c.loop-i.i c.loop-i.invariant c.loop-i-test.true c.if-text-i-eq46.false
+pub returns-in_err-before : goal.returns-in_err-before
+returns-in_err-before c =
+    let s : List ℕ = c.args.text.now in
+    let at : ℕ = c.args.at in
+    let told : c.from_residual.result ≡ None = search rules in
+    let none = no-dot (rest s at) (search rules) in
+    told ∙ none-dot s at (omega (arith, none, ap length (take_rest s at), ap (λ (r : List ℕ). length (up_to dot r)) (take_rest s at), length-drop at s))
 
 pub returns : goal.returns
 returns c =
-    let a = c.args in
-    found_none a.text.now a.at c.loop-i.i c.loop-i.invariant c.loop-i-test.false
+    let s : List ℕ = c.args.text.now in
+    let at : ℕ = c.args.at in
+    let within : c.in_ok-before.before < length (rest s at) = search rules in
+    let first = first-dot (rest s at) c.in_ok-before.before within (search rules) (search rules) in
+    some-dot s at _ (ap (λ (n : ℕ). at + n) (first ∙ ap (λ (r : List ℕ). length (up_to dot r)) (take_rest s at))) (omega (arith, within, ap length (take_rest s at), length-drop at s))
