@@ -9,6 +9,9 @@ answers r and r₂. It concludes that the answers are equal, and so is each `&mu
 contract tells its place, its place. What the contract's names mean is what they mean there: both files bring each of them in from the same
 module. A `pub fn` of a module that is not `pub` is not public.
 
+A conversion, `impl From<A> for B`, is a public function too. What it ensures is its `ghost from_gives = { λ a b. .. }`, and its theorem is
+`b-from-a-one`, with what that says of the answers r and r₂ as its premises.
+
 A line of docs/EXCEPTIONS.txt is `crate::function: requires: grounds` or `crate::function: answers: grounds`; '#' starts a comment. Nothing in it
 excuses a missing `ensures`, nor a `requires` on what a host or a program calls. A listed function that needs no exception is a fault too.
 """
@@ -20,6 +23,8 @@ ROOT = pathlib.Path(__file__).resolve().parent.parent
 PUBLIC = re.compile(r'\bpub\s+(?:extern\s+"C"\s+)?fn\s+(\w+)')
 CALLED_FROM_OUTSIDE = {'reading', 'writing', 'editing', 'decoding', 'encoding', 'parting', 'joining', 'capi', 'listing'}
 CLAUSE = re.compile(r'\s*(requires|ensures)\b\*?[^{]*')
+CONVERSION = re.compile(r'(?m)^impl(?:<[^>]*>)? From<(\w+)> for (\w+) \{')
+GIVES = re.compile(r'\s*ghost from_gives = \{\s*λ (\w+) (\w+)\.\s*([^{}]*?)\s*\};')
 RESULT = re.compile(r'\s*->\s*([^{}]*?)(?=\s*(?:requires\b|ensures\b|\{))')
 USED = re.compile(r'(?m)^(?:ghost )?use ([^;{\n]+)\.\{([^}]*)\}')
 LIBRARY = 'Rattle.std.specs.'
@@ -106,6 +111,24 @@ class Function:
         return {self.name.replace('_', '-') + '-one', self.name + '_one'}
 
 
+class Conversion(Function):
+    """A `From`: what it is of and what it gives, and its clause."""
+
+    def __init__(self, crate, text, match):
+        self.crate, self.used, self.lent = crate, used(text), []
+        self.of, self.result = match.groups()
+        self.name = f'{self.result}::from({self.of})'
+        gives = GIVES.match(text, match.end())
+        self.given, body = (gives.group(2), gives.group(3)) if gives else ('', '')
+        self.clauses = [('ensures', body)] if gives else []
+
+    def premise(self, second):
+        return words(re.sub(rf'(?<!{NAME}){self.given}(?!{NAME})', 'r₂' if second else 'r', self.ensured()[0]))
+
+    def theorem(self):
+        return {f'{self.result}-from-{self.of}-one'.lower()}
+
+
 def code(path):
     return re.sub(r'//[^\n]*', '', path.read_text(encoding='utf8'))
 
@@ -117,6 +140,8 @@ def functions():
         text = code(path)
         for match in PUBLIC.finditer(text):
             yield Function(path.parts[-3], text, match)
+        for match in CONVERSION.finditer(text):
+            yield Conversion(path.parts[-3], text, match)
 
 
 def theorems(crate):

@@ -35,3 +35,4 @@ pub mod Before
 pub mod Promises
 pub mod Pairs
 pub mod Wrong
+pub mod One

@@ -104,6 +104,6 @@ pub fn seal(draft: &mut [u8])
     if draft.len() < 21 {
         return;
     }
-    let check = crc::of_tag(draft).to_le_bytes();
-    draft[19..21].copy_from_slice(&check);
+    let [low, high] = crc::of_tag(draft).to_le_bytes();
+    draft[19..21].copy_from_slice(&[low, high]);
 }

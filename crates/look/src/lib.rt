@@ -27,9 +27,15 @@ pub fn look_at(tag: &[u8], row: &mut Row, made: &mut [u8; 19]) -> Result<View, R
     ensures { Looked tag.now row.old made.old result row.new made.new }
 {
     basic::basic_stage(tag)?;
-    let survey = chain::survey_of(tag)?;
+    let survey = match chain::survey_of(tag) {
+        Ok(survey) => survey,
+        Err(refusal) => return Err(refusal),
+    };
     let sized = Tag { bytes: tag };
-    let found = sized.find_fields(survey.library)?;
+    let found = match sized.find_fields(survey.library) {
+        Ok(found) => found,
+        Err(reason) => return Err(Refusal::Plain(reason)),
+    };
     sized.agree_stage(found)?;
     row::fill_row(tag, survey.library.at, found, row, made);
     Ok(View {

@@ -14,6 +14,8 @@ pub fn read(tag: &[u8], sheet: &mut [u8]) -> Result<usize, Refusal>
     let mut made = [0; 19];
     let view = look::look_at(tag, &mut row, &mut made)?;
     let blocks = &tag[view.blocks.at..view.blocks.at + view.blocks.len];
-    let length = render::render(tag, &made, &row, view.count, view.size, blocks, sheet)?;
-    Ok(length)
+    match render::render(tag, &made, &row, view.count, view.size, blocks, sheet) {
+        Ok(length) => Ok(length),
+        Err(reason) => Err(Refusal::Plain(reason)),
+    }
 }

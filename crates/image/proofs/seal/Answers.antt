@@ -13,4 +13,4 @@ returns-then-draft-lt21 c = rw (lt-leb 21 _ c.if-draft-lt21.true)
 
 pub returns : goal.returns
 unfolding le16
-returns c = rw (c.copy_from_slice.ensures.after, c.to_le_bytes-check.ensures, c.of_tag.ensures, drop-drop 2 19 c.args.draft.now) (sym (sealing-long c.args.draft.now c.if-draft-lt21.false))
+returns c = rw (c.copy_from_slice.ensures.after, c.to_le_bytes.ensures, c.of_tag.ensures, drop-drop 2 19 c.args.draft.now) (sym (sealing-long c.args.draft.now c.if-draft-lt21.false))

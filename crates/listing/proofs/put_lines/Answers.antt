@@ -8,7 +8,7 @@ use Rattle.listing.proofs.put_lines.Goals as goal
 
 -- what a turn reads and stores has its place
 can : (c : In-loop-i) → Within c.args.sheet.now (body_at c.loop-i.i) c.loop-i.body c.loop-i.end c.loop-i.out
-can c = can-read c.loop-i.invariant c.loop-i-test.true
+can c = can-read c.loop-i.invariant (omega (arith, c.loop-i-test.true))
 
 pub overflow_mul-body : goal.overflow_mul-body
 overflow_mul-body c = omega (arith, body-length c.args.sheet.now c.requires.0)
@@ -46,7 +46,7 @@ pub loop-i-preserved : goal.loop-i-preserved
 loop-i-preserved c =
     let l = c.loop-i in
     let line = c.put_line-end in
-    printing-on l.invariant _ _ _ c.loop-i-test.true c.from.ensures (omega (arith, c.type_inv.sheet (body_at l.i))) line.auto.out line.ensures
+    printing-on l.invariant _ _ _ (omega (arith, c.loop-i-test.true)) c.from.ensures (omega (arith, c.type_inv.sheet (body_at l.i))) line.auto.out line.ensures
 
 pub returns : goal.returns
 returns c = printing-ends c.loop-i.invariant (omega arith)

@@ -1,6 +1,6 @@
 -- `reading::read` passes the refusal of looking on, or renders what was seen.
 use Rattle.std.specs.Prelude.{Ok}
-use mathlib.Core.Path.{◌≡◌, refl}
+use mathlib.Core.Path.{◌≡◌, refl, sym, ap}
 use Prim.Native.Nat.{ℕ, ◌+◌, ◌<◌, ◌≤◌}
 use mathlib.Core.Bool.{true}
 use mathlib.Core.List.{List}
@@ -9,6 +9,7 @@ use lib.ListN.{length, replicate, get_or}
 use Rattle.std.proofs.lemmas.Result.{err_from_is_err_and}
 use Rattle.format.specs.Bytes.{bytes}
 use Rattle.format.specs.declared.Part.{Part}
+use Rattle.format.specs.Numbers.{given}
 use Rattle.format.proofs.Tests.{bytes-all}
 use Rattle.look.specs.declared.View.{View}
 use Rattle.look.specs.View.{Looked, Sighted}
@@ -49,13 +50,12 @@ render-requires c =
     let s = sight (λ i. omega (arith, c.type_inv.tag i)) c.in_ok-view.ensures in
     sighted-renderable s.tag-bytes s.sighted s.seen
 
-pub returns-in_err-length : goal.returns-in_err-length
-returns-in_err-length c =
+pub returns-in-Ok : goal.returns-in-Ok
+returns-in-Ok c =
     let s = sight (λ i. omega (arith, c.type_inv.tag i)) c.in_ok-view.ensures in
-    let p = err_from_is_err_and c.from_residual-in_err-length.result c.from_residual-in_err-length.ensures.1 in
-    rw (p.1, p.2) (rendered-reads s.tag-bytes s.sighted s.seen _ _ _ _ c.in_err-length.ensures refl)
+    rendered-reads s.tag-bytes s.sighted s.seen _ _ _ _ c.render.ensures (ap given (sym c.in-Ok.is))
 
-pub returns : goal.returns
-returns c =
+pub returns-in-Err : goal.returns-in-Err
+returns-in-Err c =
     let s = sight (λ i. omega (arith, c.type_inv.tag i)) c.in_ok-view.ensures in
-    rendered-reads s.tag-bytes s.sighted s.seen _ _ _ _ c.in_ok-length.ensures refl
+    rendered-reads s.tag-bytes s.sighted s.seen _ _ _ _ c.render.ensures (ap given (sym c.in-Err.is))

@@ -30,7 +30,7 @@ returns-then-head-least c =
 pub loop-i-preserved : goal.loop-i-preserved
 loop-i-preserved c =
     let n : ℕ = c.head_at-head.result.number in
-    let next : c.saturating_add-least.result ≡ least n = c.saturating_add-least.ensures ∙ sym (least-is n (omega arith)) in
+    let next : c.saturating_add-least.result ≡ least n = omega (arith, c.saturating_add-least.ensures, least-is n (omega arith)) in
     rw next (checking-on c.loop-i.invariant (omega arith) c.head_at-head.ensures c.if-head-least.false c.if-head-at.false)
 
 pub returns : goal.returns
