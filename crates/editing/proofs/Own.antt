@@ -47,7 +47,7 @@ part-in : (t more : List ℕ) (p : Part) → p.at + p.len ≤ length t → part 
 part-in t more p h = ap (take p.len) (drop-append-le p.at t more (omega arith)) ∙ take-append-le p.len (drop p.at t) more (omega (arith, length-drop p.at t))
 
 module _ (t : List ℕ) (row : List Part) (made d₀ : List ℕ) (v : View) (y : bytes t ≡ true) (s : Sighted t (replicate 19 0) row made v) (f : Fresh d₀ t) (h : Seen t (replicate 19 0)) where
-  own-inside : v.blocks.at + v.blocks.len ≤ length t
+  pub own-inside : v.blocks.at + v.blocks.len ≤ length t
   own-inside = rw s.view-is h.blocks-inside
 
   pub made-long : 19 ≡ length made

@@ -9,7 +9,7 @@ use Rattle.std.proofs.lemmas.Iterator.Consumers.{count_from_yields_List, YieldsL
 use Rattle.std.specs.Iterator.{Drains, YieldsFirst}
 use Rattle.std.specs.Prelude.{if◌then◌else◌}
 use Rattle.format.specs.Pieces.{Stored}
-use Rattle.format.proofs.Pieces.{stored-then, stored-as, stored-byte}
+use Rattle.format.proofs.Pieces.{stored-none, stored-then, stored-as, stored-byte}
 use Rattle.format.proofs.Strings.{nil-of}
 use Rattle.encoding.specs.declared.Words.{Words}
 use Rattle.words.specs.Code40.{value_of, outside, holding, packed, words_from, words_of}
@@ -55,10 +55,13 @@ pub record Storing (words before : List ℕ) (n : ℕ) (left after : List ℕ) :
   pub rest : done ++ left ≡ words
   pub stored : Stored before 0 done n after
 
+pub storing-starts : (words before : List ℕ) → Storing words before 0 words before
+storing-starts words before = record { done = []; kept = refl; rest = refl; stored = stored-none before 0 }
+
 module _ {words before : List ℕ} {n word : ℕ} {left behind after : List ℕ} (p : Storing words before n left after) (e : left ≡ word ∷ behind)
     (room : length words ≤ length before) where
   -- the next word has its room
-  storing-room : n < length after
+  pub storing-room : n < length after
   storing-room = omega (arith, p.kept, p.stored.0, ap length p.rest, length-append p.done left, ap length e)
 
   pub storing-on : Storing words before (n + 1) behind (set after n word)

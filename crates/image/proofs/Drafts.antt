@@ -4,8 +4,8 @@ use Prim.Native.Nat.{ℕ, zero, suc, ◌+◌, ◌-◌, ◌≤◌, ◌<◌}
 use native.Mathlib.Nat.{sub-zero}
 use native.Mathlib.Omega.{arith}
 use mathlib.Core.List.{List, [], ◌∷◌, ◌++◌, append_assoc}
-use lib.ListN.{length, take, drop, set, length-append, length-drop, length-replicate, replicate-append-replicate, take-append-drop}
-use lib.Seq.{drop_at, drop-drop, length-take-le}
+use lib.ListN.{length, take, drop, set, length-append, length-set, length-drop, length-replicate, replicate-append-replicate, take-append-drop}
+use lib.Seq.{take_at, drop_at, drop-drop, length-take-le, take-set-le, drop-set-add, set-append_left}
 use Rattle.format.specs.Pieces.{Stored}
 use Rattle.format.proofs.Pieces.{stored-none, stored-length, stored-then, stored-byte}
 use borrow.Rule.Slice.PartMut.{put_mid}
@@ -89,6 +89,23 @@ module _ {at m : ℕ} {o s d : List ℕ} (x : On at o s m d) where
   -- 00 that are there already
   pub gap : (k : ℕ) → m + k ≤ length o → On at o (s ++ zeros k) (m + k) d
   gap k h = put (zeros k) d (m + k) h (stored-zeros m k d (omega (arith, on-length)) on-blank)
+
+  -- a byte in the place of one that is there
+  pub over : (k b : ℕ) → k < length s → On at o (set s k b) m (set d (at + k) b)
+  over k b h =
+      let l = length-set s k b in
+      let z : List ℕ = drop (at + length s) o in
+      let y : List ℕ = take at o ++ (s ++ z) in
+      let front : take at (set y (at + k) b) ≡ take at o = take-set-le at y (at + k) b (omega arith) ∙ take_at (take at o) (s ++ z) at head in
+      let behind : drop at (set y (at + k) b) ≡ set s k b ++ z = drop-set-add at y k b ∙ ap (λ (u : List ℕ). set u k b) (drop_at (take at o) (s ++ z) at head) ∙ set-append_left s z k b h in
+      let is = ap (λ (u : List ℕ). set u (at + k) b) x.is.1 ∙ sym (take-append-drop at (set y (at + k) b)) ∙ ap₂ (λ (u v : List ℕ). u ++ v) front behind in
+      record { blank = x.blank; room = x.room; is = (x.is.0 ∙ omega (arith, l), is ∙ ap (λ (i : ℕ). take at o ++ (set s k b ++ drop (at + i) o)) (sym l)) }
+
+  -- what is stored stands there
+  pub on-part : (k : ℕ) → k ≡ length s → take k (drop at d) ≡ s
+  on-part k e =
+      let z : List ℕ = drop (at + length s) o in
+      ap (λ (y : List ℕ). take k (drop at y)) x.is.1 ∙ ap (take k) (drop_at (take at o) (s ++ z) at head) ∙ take_at s z k (sym e)
 
   -- as a contract says it
   pub ends : (p : List ℕ) (r : ℕ) → s ≡ p → m ≡ r → Stored o at p r d

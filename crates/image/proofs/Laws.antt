@@ -6,7 +6,7 @@ use native.Mathlib.Omega.{arith}
 use mathlib.Core.Bool.{true}
 use mathlib.Core.List.{List, [], ◌∷◌, ◌++◌, append_assoc, append-nil}
 use lib.Dec.{leb}
-use lib.ListN.{length, take, drop, replicate, length-append, length-replicate, length-take, length-drop, take-append-drop}
+use lib.ListN.{length, take, drop, set, replicate, length-set, length-append, length-replicate, length-take, length-drop, take-append-drop}
 use lib.Seq.{take_at, drop_at, take-append-add, drop-drop, length-take-le}
 use borrow.Author.Tests.{le-leb, leb-true}
 use Rattle.format.specs.Bytes.{same, le16, part, pad_with, pad}
@@ -16,6 +16,7 @@ use Rattle.format.specs.Chain.{block_one}
 use Rattle.format.specs.Elements.{slot}
 use Rattle.format.specs.Layout.{owner_width, owner_of, library, front, basic, laid_out, layout, has_layout}
 use Rattle.format.proofs.Tests.{and_r, same_truth, same-eq}
+use Rattle.format.proofs.Pieces.{stored-byte, stored-then}
 use Rattle.format.proofs.Strings.{nil-of, le16-length, length-pad}
 use Rattle.format.proofs.Layouts.{item-length, owner-length}
 use Rattle.image.specs.Laying.{zeros}
@@ -48,6 +49,11 @@ module _ (s d : List ℕ) (two : length s ≡ 2) (long : 21 ≤ length d) where
 check-same : (d : List ℕ) → with_check (part 19 2 d) d ≡ d
 check-same d =
     ap (λ (x : List ℕ). take 19 d ++ (part 19 2 d ++ x)) (sym (drop-drop 2 19 d)) ∙ ap (λ (x : List ℕ). take 19 d ++ x) (take-append-drop 2 (drop 19 d)) ∙ take-append-drop 19 d
+
+-- two bytes stored there
+pub put-check : (d : List ℕ) (low high : ℕ) → 21 ≤ length d → set (set d 19 low) 20 high ≡ with_check (low ∷ high ∷ []) d
+put-check d low high h =
+    (stored-then d (set d 19 low) (set (set d 19 low) 20 high) (low ∷ []) (high ∷ []) 19 20 21 (omega arith) (stored-byte d 19 low (omega arith)) (stored-byte (set d 19 low) 20 high (simp length-set (omega arith)))).1
 
 pub sealing-long : (d : List ℕ) → 21 ≤ length d → sealing d ≡ checked d
 unfolding sealing

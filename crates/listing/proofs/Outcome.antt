@@ -13,8 +13,13 @@ use Rattle.format.specs.Pages.{page_size}
 use Rattle.format.specs.Sheet.{Entry, sheet_of, fitting, entries_in, entries}
 use Rattle.format.specs.Reading.{content_in}
 use Rattle.format.specs.Calls.{sheet_in, read_steps, reading}
-use Rattle.format.specs.Numbers.{refusal_given, told, refusal_place, Reads}
+use Rattle.format.specs.Numbers.{reason_number, damage_number, refusal_given, told, refusal_number, refusal_place, Reads}
+use Rattle.format.specs.declared.Reason.{Reason}
+use Rattle.format.specs.declared.Reason.TheVariants as reason
+use Rattle.format.specs.declared.Damage.{Damage}
+use Rattle.format.specs.declared.Damage.TheVariants as block
 use Rattle.format.specs.declared.Refusal as code
+use Rattle.format.specs.declared.Refusal.TheVariants as refusal
 use Rattle.format.proofs.Answers.{next-inv, works, worked, refuses, refused-first, afterwards-got}
 use Rattle.format.proofs.Readable.{on-readable}
 use Rattle.format.proofs.Damages.{damage-inside}
@@ -83,6 +88,19 @@ sheet-listed t z s a n hz r e =
 
 -- ---- a refusal
 
+-- its number is short enough for a line
+reason-short : (r : Reason) → reason_number r < 10000
+reason-short reason.Size = omega arith
+reason-short r = omega arith
+
+damage-short : (d : Damage) → damage_number d < 10000
+damage-short block.Length = omega arith
+damage-short d = omega arith
+
+number-short : (x : code.Refusal) → refusal_number (refusal_given x) < 10000
+number-short (refusal.Plain r) = reason-short r
+number-short (refusal.Placed d p) = damage-short d
+
 -- its place is short enough for a line
 short : (room : ℕ) (t : List ℕ) (a : ℕ) (x : Refusal) → in_order (read_steps page_size room t) a ≡ refused x → refusal_place x 0 < 10000
 short room t a (plain k) e = omega arith
@@ -92,6 +110,7 @@ short room t a (placed k p) e =
 
 -- refusal x is listed
 pub record Listed (t : List ℕ) (x : Refusal) : Type 0 where
+  pub number : refusal_number x < 10000
   pub place : refusal_place x 0 < 10000
   pub text : refused_text x ≡ listing t
 
@@ -100,6 +119,7 @@ refusal-listed t z s a x hz r e =
     let answer = answer-is t z s a (Err x) hz r e in
     let n : ℕ = length (sheet_in t) in
     record {
+      number = number-short x;
       place = short sheet_room t n (refusal_given x) answer;
       text = sym (refused-listed t (refusal_given x) (refused-first (refusal_given x) (read_steps page_size sheet_room t) n answer));
     }

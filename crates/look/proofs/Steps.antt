@@ -1,18 +1,20 @@
 -- Looking at a tag, step by step: 1, 3 and 4; the fields, 6; whether good fields agree, 7; and all in order.
 use Rattle.std.specs.Prelude.{Ok, Err}
-use mathlib.Core.Path.{◌≡◌, sym, ◌∙◌}
+use mathlib.Core.Path.{◌≡◌, refl, sym, ap, ◌∙◌}
 use mathlib.Core.Logic.{inl, inr}
-use Prim.Native.Nat.{ℕ, ◌/◌, ◌≤◌}
+use Prim.Native.Nat.{ℕ, ◌/◌, ◌%◌, ◌≤◌, ◌<◌}
 use native.Mathlib.Omega.{arith}
-use mathlib.Core.Bool.{true, not, ◌&&◌, ◌||◌, beq}
+use mathlib.Core.Bool.{Bool, true, false, not, ◌&&◌, ◌||◌, beq, and-true}
 use mathlib.Core.List.{List, [], ◌∷◌}
-use lib.ListN.{length}
-use lib.Dec.{eqb}
+use lib.ListN.{length, get_or}
+use lib.Seq.{drop-cons}
+use lib.Dec.{eqb, leb}
+use borrow.Author.Tests.{eq-eqb, ne_eqb}
 use Rattle.format.specs.declared.Part.{Part}
 use Rattle.format.specs.declared.Refusal.{Refusal}
-use Rattle.format.specs.Answers.{got, refused, plain, Step, need, in_order, passed}
-use Rattle.format.specs.Numbers.{refusal_given}
-use Rattle.format.specs.Bytes.{part, filled}
+use Rattle.format.specs.Answers.{Answer, got, refused, plain, Step, need, in_order, passed}
+use Rattle.format.specs.Numbers.{number_of, refusal_given, given}
+use Rattle.format.specs.Bytes.{same, le16, part, filled}
 use Rattle.format.specs.Pages.{page_size, good_size}
 use Rattle.format.specs.Chain.{block_of}
 use Rattle.format.specs.Reading.{main_usage, walked, blocks_in, library_on, good_fields, agree, tag_steps}
@@ -23,12 +25,16 @@ use Rattle.format.proofs.Sound.{fields-parts}
 use Rattle.chain.specs.declared.Chain.{Chain}
 use Rattle.chain.proofs.Laws.{Surveyed}
 use Rattle.fields.specs.declared.LibraryParts.{LibraryParts}
-use Rattle.fields.specs.Forms.{item_marked, owner_marked}
-use Rattle.fields.proofs.Places.{within-length, ItemStands, item-stands, OwnerStands, owner-stands, LibraryStands, library-stands}
+use Rattle.fields.specs.Forms.{item_marked, owner_marked, item_form, owner_form, library_form}
+use Rattle.fields.proofs.Places.{within-length, item-given, owner-given, library-given, ItemStands, item-stands, OwnerStands, owner-stands, LibraryStands, library-stands}
 use Rattle.look.specs.declared.judge.Fields.{Fields}
 use Rattle.look.specs.Looking.{Sized, basic_judged, fields_on, FieldsOf}
 use Rattle.look.specs.Row.{row_by, made_by, piece_by}
 use Rattle.look.specs.View.{view_in, looking, Looked}
+
+-- the number of a refusal, taken out and handed on
+pub refused-number : {A : Type 0} (x : Answer A) (k n : ℕ) → x ≡ refused (plain k) → n ≡ number_of x → x ≡ refused (plain n)
+refused-number x k n e h = e ∙ ap (λ (j : ℕ). refused (plain j)) (sym (h ∙ ap (λ y. number_of y) e))
 
 -- ---- 1, 3 and 4
 
@@ -37,7 +43,46 @@ size_passed t e =
     let least : 32 ≤ length t = elim (size-cases page_size (length t) e) [ inl h ↦ omega (arith, h) | inr h ↦ omega (arith, h) ] in
     record { least = least; most = size-most page_size (length t) e }
 
+-- the CRC's two bytes, low byte first
+check-bytes : (t : List ℕ) (k : ℕ) → Sized t → same (part 19 2 t) (le16 k) ≡ eqb (get_or t 19 0) (k % 256) && (eqb (get_or t 20 0) (k / 256 % 256) && true)
+unfolding same le16
+check-bytes t k s = rw (drop-cons t 19 0 (omega (arith, s.least)), drop-cons t 20 0 (omega (arith, s.least)))
+
+module _ (t : List ℕ) (k : ℕ) (s : Sized t) where
+  pub low-differs : (get_or t 19 0 ≡ k % 256 → ⊥) → same (part 19 2 t) (le16 k) ≡ false
+  low-differs h = check-bytes t k s ∙ rw (ne_eqb _ _ h)
+
+  pub high-decides : get_or t 19 0 ≡ k % 256 → k < 65536 → same (part 19 2 t) (le16 k) ≡ eqb (get_or t 20 0) (k / 256)
+  high-decides e h =
+      let high : k / 256 % 256 ≡ k / 256 = omega arith in
+      check-bytes t k s ∙ rw (eq-eqb _ _ e, high, and-true)
+
 -- ---- 6
+
+need-and : {A : Type 0} (n : ℕ) (a b : Bool) (ss : List Step) (p : A) → in_order (need n (a && b) ∷ ss) p ≡ in_order (need n a ∷ need n b ∷ ss) p
+unfolding need in_order
+need-and n true b ss p = refl
+need-and n false b ss p = refl
+
+passed-found : {A : Type 0} (good : Bool) (p : A) → passed (in_order (need 6 good ∷ []) p) ≡ need 6 good
+unfolding need in_order passed
+passed-found true p = refl
+passed-found false p = refl
+
+-- the fields are good: one step after the other
+pub fields-each : (t : List ℕ) {A : Type 0} (p : A)
+    → in_order (need 6 (good_fields t) ∷ []) p
+    ≡ in_order
+    (need 6 (leb (get_or t 2 0) (get_or t 1 0)) ∷
+    passed (given (item_form (part 3 16 t))) ∷
+    passed (given (owner_form (part 21 13 t))) ∷
+    passed (given (library_form (block_of 1 (blocks_in t)))) ∷
+    [])
+    p
+unfolding good_fields
+fields-each t p =
+    simp (item-given (part 3 16 t), owner-given (part 21 13 t), library-given (block_of 1 (blocks_in t)), passed-found)
+    (need-and 6 _ _ [] p ∙ need-and 6 _ _ _ p ∙ need-and 6 _ _ _ p)
 
 pub fields-of : (t : List ℕ) (f : Fields) → got f ≡ in_order (need 6 (good_fields t) ∷ []) (fields_on t) → FieldsOf t f
 fields-of t f e =

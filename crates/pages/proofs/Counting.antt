@@ -40,7 +40,7 @@ counted-one f n i h e = ne_eqb (count f n) 0 (λ z. never (cc (count-zero f n z 
 -- ---- the pages that are locked
 
 -- pages that the lock map does not reach are open
-open-beyond : (locks : List ℕ) (i : ℕ) → length locks ≤ i → locked locks i ≡ false
+pub open-beyond : (locks : List ℕ) (i : ℕ) → length locks ≤ i → locked locks i ≡ false
 open-beyond locks i h = rw (get_or-eq_default locks 0 h)
 
 open_at : (locks : List ℕ) (i : ℕ) → all is_open locks ≡ true → not (locked locks i) ≡ true
@@ -54,15 +54,20 @@ module _ (p : ℕ) (locks t image : List ℕ) where
   unfolding locked_changed locked_differs
   one-locked i h l d = sym (ap not (counted-one (locked_differs p locks t image) (length t / p) i h (and_i l d)))
 
-  -- none of those that both have, as far as page i
-  pub none_locked : (i : ℕ) → min (length t / p) (length locks) ≤ i → ((j : ℕ) → j < i → locked_differs p locks t image j ≡ false)
+  -- none up to page i, and none locked from there
+  pub none-locked : (i : ℕ) → ((j : ℕ) → j < i → locked_differs p locks t image j ≡ false) → ((j : ℕ) → i ≤ j → j < length t / p → locked locks j ≡ false)
       → false ≡ not (eqb (locked_changed p locks t image) 0)
   unfolding locked_changed locked_differs
-  none_locked i all below = sym (ap not (eq-eqb _ 0 (zero-count (locked_differs p locks t image) (length t / p) (λ j h. each j (ltb j i) refl h))))
+  none-locked i below beyond = sym (ap not (eq-eqb _ 0 (zero-count (locked_differs p locks t image) (length t / p) (λ j h. each j (ltb j i) refl h))))
     where
       each : (j : ℕ) (b : Bool) → ltb j i ≡ b → j < length t / p → locked_differs p locks t image j ≡ false
       each j true e h = below j (ltb-true j i e)
-      each j false e h = and_left _ _ (open-beyond locks j (omega (arith, ltb-false j i e)))
+      each j false e h = and_left _ _ (beyond j (ltb-false j i e) h)
+
+  -- none of those that both have, as far as page i
+  pub none_locked : (i : ℕ) → min (length t / p) (length locks) ≤ i → ((j : ℕ) → j < i → locked_differs p locks t image j ≡ false)
+      → false ≡ not (eqb (locked_changed p locks t image) 0)
+  none_locked i all below = none-locked i below (λ j h k. open-beyond locks j (omega arith))
 
   -- where every lock byte is open, no locked page gets other bytes
   pub all_open : all is_open locks ≡ true → eqb (locked_changed p locks t image) 0 ≡ true

@@ -10,6 +10,7 @@ use lib.Dec.{leb, ltb}
 use borrow.Author.Tests.{eq-eqb, ne_eqb, leb-true, lt-ltb, le-ltb, ltb-true, ltb-false}
 use Rattle.std.specs.Prelude.{None, Some}
 use Rattle.format.specs.Bytes.{up_to}
+use Rattle.format.proofs.Strings.{rest-opened}
 use Rattle.format.proofs.Tests.{never}
 use Rattle.words.proofs.Cases.{decide}
 use Rattle.format.proofs.Tests.{and_l, and_r}
@@ -54,6 +55,20 @@ module _ (s : List ℕ) (at : ℕ) where
   pub dot-none : dot_at s at ≡ None → length s ≤ first_at
   unfolding dot_at
   dot-none e = decide (ltb first_at (length s)) (λ t. let k = rw t at e in never (cc)) (λ t. ltb-false first_at (length s) t)
+
+-- ---- from a place on there is no dot
+
+module _ (s : List ℕ) (at : ℕ) where
+  pub skips-none : at ≤ length s → Skips s at at
+  skips-none h = record { inside = h; first = refl }
+
+  module _ (i : ℕ) (p : Skips s at i) where
+    none_here : i < length s → (get_or s i 0 ≡ dot → ⊥) → up_to dot (drop i s) ≡ get_or s i 0 ∷ up_to dot (drop (i + 1) s)
+    unfolding up_to
+    none_here h e = rw (rest-opened s i h, ne_eqb (get_or s i 0) dot e) refl
+
+    pub skips-one : i < length s → (get_or s i 0 ≡ dot → ⊥) → Skips s at (i + 1)
+    skips-one h e = record { inside = omega arith; first = omega (arith, p.first, ap length (none_here h e)) }
 
 -- bytes without a dot stand before the first
 up-to-behind : (p r : List ℕ) → dotless p ≡ true → up_to dot (p ++ r) ≡ p ++ up_to dot r

@@ -8,7 +8,7 @@ use Rattle.format.specs.Answers.{Answer, plain, got, refused, Step, need, in_ord
 use Rattle.format.specs.Bytes.{up_to, le16}
 use Rattle.format.specs.Elements.{set_bytes, form}
 use Rattle.std.specs.Prelude.{Ok, Err}
-use Rattle.format.specs.Numbers.{reason_number}
+use Rattle.format.specs.Numbers.{reason_number, number_of}
 use Rattle.format.specs.declared.Reason.{Reason}
 use Rattle.format.specs.declared.Reason.TheVariants as reason
 use Rattle.format.specs.Pieces.{Stored}
@@ -24,6 +24,10 @@ use Rattle.parting.specs.Places.{isil_in, rest_in, place_in}
 use Rattle.parting.specs.declared.set.Set.{Set}
 use Rattle.parting.specs.Sets.{numbers_in, stands_in}
 use Rattle.parting.proofs.Finding.{isil-found, item-found, set_found}
+
+-- the number that a refusing stage gives
+pub number-given : {A : Type 0} (a : Answer A) {k n : ℕ} → a ≡ refused (plain k) → n ≡ number_of a → a ≡ refused (plain n)
+number-given a e h = e ∙ ap (λ j. refused (plain j)) (sym (h ∙ ap number_of e))
 
 three-same : {A : Type 0} {a b c a' b' c' : A} → a ≡ a' → b ≡ b' → c ≡ c' → three a b c ≡ three a' b' c'
 three-same p q r = rw (p, q, r) refl

@@ -66,7 +66,7 @@ module _ (s t locks : List ℕ) where
       unfolding writing write_steps
       reached = next-ok 1 sized _ _ z ∙ next-ok 8 (right_sheet s) _ _ r ∙ next-ok 9 (good_values (entries_in s)) _ _ v
 
-      draft-writes : (q : Reason) → drafting (length t) c.slots (joined c.carried) ≡ refused (refusal q) → Writes s t locks (Err q) t
+      pub draft-writes : (q : Reason) → drafting (length t) c.slots (joined c.carried) ≡ refused (refusal q) → Writes s t locks (Err q) t
       unfolding drafting
       draft-writes q d = refused-writes q (reached ∙ draft-refused page_size locks t c _ _ d)
 
@@ -74,11 +74,11 @@ module _ (s t locks : List ℕ) where
         abbrev unlocks : Step
         unlocks = need 12 (eqb (locked_changed page_size locks t new) 0)
 
-        lock-writes : (q : Reason) → unlocks ≡ refused (refusal q) → Writes s t locks (Err q) t
+        pub lock-writes : (q : Reason) → unlocks ≡ refused (refusal q) → Writes s t locks (Err q) t
         unfolding drafting
         lock-writes q l = refused-writes q (reached ∙ lock-refused page_size locks t c _ d _ l)
 
-        done-writes : unlocks ≡ got tt → (k : ℕ) (tag : List ℕ) → k ≡ changed page_size t new → tag ≡ new → Writes s t locks (Ok k) tag
+        pub done-writes : unlocks ≡ got tt → (k : ℕ) (tag : List ℕ) → k ≡ changed page_size t new → tag ≡ new → Writes s t locks (Ok k) tag
         unfolding writing drafting
         done-writes l k tag e g =
             let a : (writing page_size s t locks).answer ≡ got (changed page_size t new) = reached ∙ lock-passed page_size locks t c _ d l in

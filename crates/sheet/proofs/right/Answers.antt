@@ -1,5 +1,5 @@
 -- The invariant: the heads that come decide whether the sheet is right.
-use mathlib.Core.Path.{◌≡◌, sym, ◌∙◌}
+use mathlib.Core.Path.{◌≡◌}
 use Prim.Native.Nat.{ℕ}
 use native.Mathlib.Omega.{arith}
 use Rattle.format.proofs.Tests.{bytes-all}
