@@ -23,10 +23,11 @@ ROOT = pathlib.Path(__file__).resolve().parent.parent
 PUBLIC = re.compile(r'\bpub\s+(?:extern\s+"C"\s+)?fn\s+(\w+)')
 CALLED_FROM_OUTSIDE = {'reading', 'writing', 'editing', 'decoding', 'encoding', 'parting', 'joining', 'capi', 'listing'}
 CLAUSE = re.compile(r'\s*(requires|ensures)\b\*?[^{]*')
-CONVERSION = re.compile(r'(?m)^impl(?:<[^>]*>)? From<(\w+)> for (\w+) \{')
+CONVERSION = re.compile(r'(?m)^impl(?:<[^>]*>)? From<([^>]+)> for ([^{]+?) \{')
 GIVES = re.compile(r'\s*ghost from_gives = \{\s*λ (\w+) (\w+)\.\s*([^{}]*?)\s*\};')
 RESULT = re.compile(r'\s*->\s*([^{}]*?)(?=\s*(?:requires\b|ensures\b|\{))')
 USED = re.compile(r'(?m)^(?:ghost )?use ([^;{\n]+)\.\{([^}]*)\}')
+RENAMED = re.compile(r'(?m)^(?:ghost )?use ([\w.]+) as (\w+);?$')
 LIBRARY = 'Rattle.std.specs.'
 KIT = ('Rattle.std.', 'mathlib.', 'Prim.', 'lib.', 'denote.')
 NAME = r"[^\s(){}.;,]"
@@ -48,8 +49,8 @@ def words(text):
 
 
 def used(text):
-    """The module that each name of a file is brought in from."""
-    return {name.strip(): module for module, names in USED.findall(text) for name in names.split(',')}
+    """The module that each name of a file is brought in from, or that it stands for."""
+    return {name.strip(): module for module, names in USED.findall(text) + RENAMED.findall(text) for name in names.split(',')}
 
 
 class Function:
@@ -96,6 +97,7 @@ class Function:
     def meanings(self):
         """The names of the contract that are brought in, and from where."""
         found = set(re.findall(r"[^\s(){}]+", ' '.join(self.ensured())))
+        found |= {name.split('.')[0] for name in found}
         return {name: module for name, module in self.used.items() if name.strip('◌') in found}
 
     def conclusion(self):
@@ -126,7 +128,7 @@ class Conversion(Function):
         return words(re.sub(rf'(?<!{NAME}){self.given}(?!{NAME})', 'r₂' if second else 'r', self.ensured()[0]))
 
     def theorem(self):
-        return {f'{self.result}-from-{self.of}-one'.lower()}
+        return {'-'.join([*re.findall(r'\w+', self.result), 'from', *re.findall(r'\w+', self.of), 'one']).lower()}
 
 
 def code(path):
