@@ -1,9 +1,12 @@
 -- Where code finds the parts of an identifier. No rule of document 02 stands here; proofs/Finding.antt and Cutting.antt say that these are the parts.
-use Rattle.std.specs.Prelude.{◌≡◌, ℕ, ◌+◌, ◌≤◌, Bool, ◌&&◌, List, [], ◌∷◌, length, take, drop, leb, ltb, if◌then◌else◌, Option, None, Some}
-use Rattle.format.specs.Answers.{Answer, need, in_order}
+use Rattle.std.specs.Prelude.{◌≡◌, ℕ, ◌+◌, ◌≤◌, Bool, ◌&&◌, List, [], ◌∷◌, length, take, drop, leb, ltb, if◌then◌else◌, Option, None, Some, Result, Ok, Err}
+use Rattle.format.specs.Answers.{Answer, plain, refused, need, in_order}
 use Rattle.format.specs.Bytes.{up_to, past}
+use Rattle.format.specs.Numbers.{reason_number}
+use Rattle.format.specs.declared.Reason.{Reason}
 use Rattle.identifier.specs.Parts.{dot, dotless, parts}
 use Rattle.identifier.specs.Elements.{right_count}
+use Rattle.parting.specs.declared.places.Begin.{Begin}
 use Rattle.parting.specs.declared.places.Cut.{Cut}
 
 -- the ISIL, where one leads
@@ -46,3 +49,8 @@ unfoldable pub cut_in : Bool → List ℕ → Answer Cut
 cut_in leads s =
     let at : ℕ = item_at leads s in
     in_order (need 22 (right_count leads (parts s)) ∷ []) (record { isil = length (isil_in leads s); item = at; end = at + length (up_to dot (drop at s)) })
+
+-- where it begins, as the text's beginning or the first dot says; or the refusal of the whole
+abbrev pub Begins : Bool → List ℕ → Result Begin Reason → Type 0
+Begins leads s (Ok b) = (b.item ≤ length s) × (cut_from s b.isil b.item ≡ cut_in leads s)
+Begins leads s (Err r) = refused (plain (reason_number r)) ≡ cut_in leads s

@@ -1,7 +1,7 @@
 // Where the parts of an identifier stand.
 ghost use Rattle.std.specs.Prelude.{◌≡◌, ◌≤◌, length, drop};
 ghost use Rattle.format.specs.Numbers.{given};
-ghost use Rattle.parting.specs.Places.{sixteen, dot_at, Skips, cut_from, cut_in};
+ghost use Rattle.parting.specs.Places.{sixteen, dot_at, Skips, cut_from, Begins, cut_in};
 
 use format::Reason;
 
@@ -12,6 +12,13 @@ pub struct Cut {
     pub isil: usize,
     pub item: usize,
     pub end: usize,
+}
+
+// The identifier begins at `item`. Before it stand an ISIL of `isil` bytes and a dot, or nothing.
+#[derive(Clone, Copy)]
+struct Begin {
+    isil: usize,
+    item: usize,
 }
 
 // The place of the first dot from `at` on.
@@ -62,13 +69,24 @@ fn cut_from(text: &[u8], isil: usize, item: usize) -> Result<Cut, Reason>
     }
 }
 
-// Where the identifier stands: it begins the text or, if an ISIL leads, behind the first dot.
+// Where the identifier begins: at the text's beginning or, if an ISIL leads, behind the first dot.
+fn begin_in(text: &[u8], leads: bool) -> Result<Begin, Reason>
+    ensures { Begins leads text.now result }
+{
+    if !leads {
+        return Ok(Begin { isil: 0, item: 0 });
+    }
+    let isil = dot_from(text, 0).ok_or(Reason::Parts)?;
+    Ok(Begin {
+        isil,
+        item: isil + 1,
+    })
+}
+
+// Where the identifier stands. One call of `cut_from`, so that what it answers does not go over the stack.
 pub fn cut_text(text: &[u8], leads: bool) -> Result<Cut, Reason>
     ensures { given result ≡ cut_in leads text.now }
 {
-    if !leads {
-        return cut_from(text, 0, 0);
-    }
-    let isil = dot_from(text, 0).ok_or(Reason::Parts)?;
-    cut_from(text, isil, isil + 1)
+    let begin = begin_in(text, leads)?;
+    cut_from(text, begin.isil, begin.item)
 }

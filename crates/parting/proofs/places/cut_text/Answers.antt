@@ -1,47 +1,15 @@
--- With an ISIL the identifier begins behind the first dot, without one it begins the text.
-use Rattle.std.specs.Prelude.{Some, Err}
-use mathlib.Core.Path.{◌≡◌, refl, sym, ap, ◌∙◌}
-use native.Mathlib.Omega.{arith}
-use mathlib.Core.Bool.{Bool}
-use borrow.Author.Rules.{rules}
-use lib.ListN.{length}
-use Rattle.format.proofs.Strings.{up-to-length}
-use Rattle.format.specs.Numbers.{given}
-use Rattle.format.specs.declared.Reason.TheVariants as reason
-use Rattle.identifier.specs.Parts.{dot}
-use Rattle.parting.specs.Places.{cut_in, dot_at}
-use Rattle.parting.proofs.Seeking.{dot-some, dot-none}
-use Rattle.parting.proofs.Cutting.{cut-whole, cut-led, cut-none}
+-- What begins the identifier is refused, or cut from there on.
+use mathlib.Core.Path.{◌∙◌}
+use Rattle.std.proofs.lemmas.Result.{err_from_is_err_and}
 use Rattle.parting.proofs.places.cut_text.Goals as goal
 
-pub returns-then-not-leads : goal.returns-then-not-leads
-returns-then-not-leads c =
-    let a = c.args in
-    c.cut_from.ensures ∙ cut-whole a.text.now ∙ sym (ap (λ (b : Bool). cut_in b a.text.now) c.if-not-leads.true)
+pub returns-in_err-begin : goal.returns-in_err-begin
+returns-in_err-begin c =
+    let p = err_from_is_err_and c.from_residual.result c.from_residual.ensures.1 in
+    rw (p.1, p.2) c.in_err-begin.ensures
 
-pub returns-in_err-isil : goal.returns-in_err-isil
-returns-in_err-isil c =
-    let a = c.args in
-    let none = dot-none a.text.now 0 (search rules) in
-    let told : c.from_residual.result ≡ Err reason.Parts = search rules in
-    ap given told ∙ cut-none a.text.now (length a.text.now) (omega (arith, none, up-to-length dot a.text.now)) refl
-    ∙ sym (ap (λ (b : Bool). cut_in b a.text.now) c.if-not-leads.false)
-
-pub overflow_add-isil : goal.overflow_add-isil
-overflow_add-isil c =
-    let e : dot_at c.args.text.now 0 ≡ Some c.in_ok-isil.isil = search rules in
-    let l = (dot-some c.args.text.now 0 e).1 in
-    search rules
-
-pub cut_from-requires-2 : goal.cut_from-requires-2
-cut_from-requires-2 c =
-    let e : dot_at c.args.text.now 0 ≡ Some c.in_ok-isil.isil = search rules in
-    omega (arith, dot-some c.args.text.now 0 e)
+pub cut_from-requires : goal.cut_from-requires
+cut_from-requires c = c.in_ok-begin.ensures.0
 
 pub returns : goal.returns
-returns c =
-    let a = c.args in
-    let e : dot_at a.text.now 0 ≡ Some c.in_ok-isil.isil = search rules in
-    let some = dot-some a.text.now 0 e in
-    c.cut_from-2.ensures ∙ cut-led a.text.now c.in_ok-isil.isil some.0 (λ z. omega (arith, some.1))
-    ∙ sym (ap (λ (b : Bool). cut_in b a.text.now) c.if-not-leads.false)
+returns c = c.cut_from.ensures ∙ c.in_ok-begin.ensures.1
